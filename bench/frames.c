@@ -1,0 +1,244 @@
+/*
+ * The four calls of libsonerwal.a against plain C, in nanoseconds for one call.
+ *
+ * Usage: frames [--strict]        --strict: exit 1 if a ratio is above the goal
+ *
+ * Both sides run in one process, by turns, over the same inputs, through pointers to functions of other translation
+ * units. Of many rounds the fastest counts, since whatever disturbs a round makes it slower. Both must have given
+ * the same results, or a row says nothing.
+ */
+#define _POSIX_C_SOURCE 200809L
+
+#include "plain.h"
+#include "sonerwal.h"
+
+#include <stdio.h>
+#include <stdlib.h>
+#include <string.h>
+#include <time.h>
+
+#define GOAL 1.10
+
+enum {
+	INPUTS = 8,    /* different calls, gone through in a circle; few enough for the nearest cache */
+	CALLS = 4000, /* calls between two looks at the clock */
+	ROUNDS = 1000
+};
+
+struct coder {
+	__typeof__(sas_open_read) *open_read;
+	__typeof__(sas_open_write) *open_write;
+	__typeof__(sas_data_read) *data_read;
+	__typeof__(sas_data_write) *data_write;
+};
+
+enum side { PLAIN, OURS, SIDES };
+
+static const struct coder coders[SIDES] = {
+	[PLAIN] = {plain_open_read, plain_open_write, plain_data_read, plain_data_write},
+	[OURS] = {sas_open_read, sas_open_write, sas_data_read, sas_data_write},
+};
+
+struct input {
+	struct sas_open open;
+	struct sas_data data;
+	uint8_t open_frame[SAS_OPEN_SIZE];
+	uint8_t data_frame[SAS_DATA_SIZE_MAX];
+	uint8_t body[SAS_DATA_BODY_MAX];
+};
+
+struct result {
+	struct sas_open open;
+	struct sas_data data;
+	uint8_t frame[SAS_DATA_SIZE_MAX];
+};
+
+static struct input inputs[INPUTS];
+static struct result results[SIDES][INPUTS];
+static volatile uint64_t sink;
+
+/* ---- Inputs */
+
+static uint64_t noise(void)
+{
+	static uint64_t state = UINT64_C(0x50C1A101);
+	state = state * UINT64_C(6364136223846793005) + UINT64_C(1442695040888963407);
+	return state >> 16;
+}
+
+static void prepare_open(struct input *in)
+{
+	in->open = (struct sas_open){
+		.initiator = (uint8_t)(noise() % 2),
+		.protocol = (uint8_t)(noise() % 3),
+		.features = (uint8_t)(noise() % 16),
+		.rate = (uint8_t)(8 + noise() % 3),
+		.tag = (uint16_t)noise(),
+		.destination = noise() << 16,
+		.source = noise() << 16,
+		.pbc = (uint8_t)noise(),
+		.awt = (uint16_t)noise(),
+	};
+	sas_open_put(&in->open, in->open_frame, sizeof in->open_frame);
+}
+
+static void prepare_data(struct input *in, size_t body_len)
+{
+	in->data = (struct sas_data){
+		.hashed_destination = (uint32_t)noise() & SAS_HASHED_ADDRESS_MAX,
+		.hashed_source = (uint32_t)noise() & SAS_HASHED_ADDRESS_MAX,
+		.changing = (uint8_t)(noise() % 2),
+		.tag = (uint16_t)noise(),
+		.offset = (uint32_t)noise(),
+		.length = (uint16_t)body_len,
+	};
+	for (size_t i = 0; i < body_len; i++) {
+		in->body[i] = (uint8_t)noise();
+	}
+	sas_data_put(&in->data, in->body, in->data_frame, sizeof in->data_frame);
+}
+
+static void prepare(size_t body_len)
+{
+	memset(results, 0, sizeof results);
+	for (size_t i = 0; i < INPUTS; i++) {
+		prepare_open(&inputs[i]);
+		prepare_data(&inputs[i], body_len);
+	}
+}
+
+/* ---- One call of a side, from input to result */
+
+static uint8_t open_read(const struct coder *coder, const struct input *in, struct result *out)
+{
+	struct sas_open *o = &out->open;
+	return coder->open_read(in->open_frame, sizeof in->open_frame, &o->initiator, &o->protocol, &o->features,
+	                        &o->rate, &o->tag, &o->destination, &o->source, &o->pbc, &o->awt);
+}
+
+static uint8_t open_write(const struct coder *coder, const struct input *in, struct result *out)
+{
+	const struct sas_open *o = &in->open;
+	return coder->open_write(o->initiator, o->protocol, o->features, o->rate, o->tag, o->destination, o->source,
+	                         o->pbc, o->awt, out->frame, SAS_OPEN_SIZE);
+}
+
+static uint8_t data_read(const struct coder *coder, const struct input *in, struct result *out)
+{
+	struct sas_data *d = &out->data;
+	return coder->data_read(in->data_frame, sas_data_size(in->data.length), &d->hashed_destination,
+	                        &d->hashed_source, &d->changing, &d->tag, &d->offset, &d->length);
+}
+
+static uint8_t data_write(const struct coder *coder, const struct input *in, struct result *out)
+{
+	const struct sas_data *d = &in->data;
+	return coder->data_write(d->hashed_destination, d->hashed_source, d->changing, d->tag, d->offset, in->body,
+	                         d->length, out->frame, sas_data_size(d->length));
+}
+
+/* ---- Rows */
+
+/* A loop of its own for each call, so that the step is inlined and only the measured function is called. */
+#define LOOP_OVER(step)                                                               \
+	static uint64_t many_##step(enum side side)                                   \
+	{                                                                             \
+		uint64_t answers = 0;                                                 \
+		for (size_t i = 0; i < CALLS; i++) {                                  \
+			size_t at = i % INPUTS;                                       \
+			answers += step(&coders[side], &inputs[at], &results[side][at]); \
+		}                                                                     \
+		return answers;                                                       \
+	}
+
+LOOP_OVER(open_read)
+LOOP_OVER(open_write)
+LOOP_OVER(data_read)
+LOOP_OVER(data_write)
+
+struct row {
+	const char *name;
+	uint64_t (*many)(enum side side);
+	size_t body_len;
+	double best[SIDES];
+};
+
+static struct row rows[] = {
+	{"OPEN read", many_open_read, 4, {0}},         {"OPEN write", many_open_write, 4, {0}},
+	{"DATA read, 4", many_data_read, 4, {0}},      {"DATA read, 512", many_data_read, 512, {0}},
+	{"DATA read, 1024", many_data_read, 1024, {0}}, {"DATA write, 4", many_data_write, 4, {0}},
+	{"DATA write, 512", many_data_write, 512, {0}}, {"DATA write, 1024", many_data_write, 1024, {0}},
+};
+
+enum { ROWS = sizeof rows / sizeof *rows };
+
+static double nanoseconds(void)
+{
+	struct timespec now;
+	clock_gettime(CLOCK_MONOTONIC, &now);
+	return (double)now.tv_sec * 1e9 + (double)now.tv_nsec;
+}
+
+static void measure_side(struct row *row, enum side side)
+{
+	double start = nanoseconds();
+	uint64_t refused = row->many(side);
+	double each = (nanoseconds() - start) / CALLS;
+	sink += refused;
+	if (refused != 0) {
+		fprintf(stderr, "bench: %s: a valid call was refused\n", row->name);
+		exit(2);
+	}
+	if (row->best[side] == 0 || each < row->best[side]) {
+		row->best[side] = each;
+	}
+}
+
+/* Who goes first changes with each round. */
+static void measure(struct row *row)
+{
+	prepare(row->body_len);
+	for (int round = 0; round < ROUNDS; round++) {
+		enum side first = round % 2 ? OURS : PLAIN;
+		measure_side(row, first);
+		measure_side(row, first == PLAIN ? OURS : PLAIN);
+	}
+	if (memcmp(results[PLAIN], results[OURS], sizeof results[PLAIN]) != 0) {
+		fprintf(stderr, "bench: %s: the two sides give different results\n", row->name);
+		exit(2);
+	}
+}
+
+static double ratio(const struct row *row)
+{
+	return row->best[OURS] / row->best[PLAIN];
+}
+
+/* The table; gives how many rows miss the goal. */
+static int show(void)
+{
+	int missed = 0;
+	printf("%-18s %10s %10s %8s  at most %.2f\n", "call", "plain, ns", "ours, ns", "ratio", GOAL);
+	for (size_t i = 0; i < ROWS; i++) {
+		int misses = ratio(&rows[i]) > GOAL;
+		missed += misses;
+		printf("%-18s %10.2f %10.2f %8.2f  %s\n", rows[i].name, rows[i].best[PLAIN], rows[i].best[OURS],
+		       ratio(&rows[i]), misses ? "no" : "yes");
+	}
+	return missed;
+}
+
+int main(int argc, char **argv)
+{
+	int strict = argc > 1 && strcmp(argv[1], "--strict") == 0;
+	for (size_t i = 0; i < ROWS; i++) {
+		measure(&rows[i]);
+	}
+	int missed = show();
+	if (missed == 0) {
+		printf("goal %.2f: every ratio is at most that\n", GOAL);
+	} else {
+		printf("goal %.2f: missed by %d of %d ratios\n", GOAL, missed, (int)ROWS);
+	}
+	return strict && missed ? EXIT_FAILURE : EXIT_SUCCESS;
+}

@@ -1,0 +1,60 @@
+-- A call as the claims see it: arguments, an answer and what is left of the lent that together meet the promise generated from
+-- the source. What is shown of every such outcome is shown of what the call does. Assumes nothing.
+use Prim.Native.Nat.{ℕ}
+use mathlib.Core.List.{List}
+use borrow.Fn.Kinds as kinds
+use contract.Lifetimes
+use denote.Triple.Clauses
+use Rattle.open_frame.proofs.read_open.Kinds as read-open-of
+use Rattle.open_frame.proofs.read_open.Reads as read-open
+use Rattle.open_frame.proofs.write_open.Kinds as write-open-of
+use Rattle.open_frame.proofs.write_open.Reads as write-open
+use Rattle.open_frame.proofs.higher.Kinds as higher-of
+use Rattle.open_frame.proofs.higher.Reads as higher
+use Rattle.ssp_frame.proofs.data.read_data.Kinds as read-data-of
+use Rattle.ssp_frame.proofs.data.read_data.Reads as read-data
+use Rattle.ssp_frame.proofs.data.write_data.Kinds as write-data-of
+use Rattle.ssp_frame.proofs.data.write_data.Reads as write-data
+use Rattle.sonerwal.proofs.sas_open_read.Kinds as sas-open-read-of
+use Rattle.sonerwal.proofs.sas_open_read.Reads as sas-open-read
+use Rattle.sonerwal.proofs.sas_open_write.Kinds as sas-open-write-of
+use Rattle.sonerwal.proofs.sas_open_write.Reads as sas-open-write
+use Rattle.sonerwal.proofs.sas_data_read.Kinds as sas-data-read-of
+use Rattle.sonerwal.proofs.sas_data_read.Reads as sas-data-read
+use Rattle.sonerwal.proofs.sas_data_write.Kinds as sas-data-write-of
+use Rattle.sonerwal.proofs.sas_data_write.Reads as sas-data-write
+
+-- of a function of n lifetimes, parameters ps and result r, with this promise
+pub record Outcome (n : ℕ) (ps : List (kinds.PK n)) (r : kinds.RK n) (post : kinds.Out n ps r) : Type 0 where
+  pub lifetimes : Lifetimes.Lfts n
+  pub args : kinds.Dens lifetimes ps
+  pub answer : kinds.resT r lifetimes .Denot
+  pub exit : Clauses.AtExit (kinds.endedOf n ps r) lifetimes
+  pub met : post lifetimes args answer exit
+
+abbrev pub ReadOpen : Type 0
+ReadOpen = Outcome 1 read-open-of.ps read-open-of.r read-open.Post
+
+abbrev pub WriteOpen : Type 0
+WriteOpen = Outcome 1 write-open-of.ps write-open-of.r write-open.Post
+
+abbrev pub Higher : Type 0
+Higher = Outcome 0 higher-of.ps higher-of.r higher.Post
+
+abbrev pub ReadData : Type 0
+ReadData = Outcome 1 read-data-of.ps read-data-of.r read-data.Post
+
+abbrev pub WriteData : Type 0
+WriteData = Outcome 2 write-data-of.ps write-data-of.r write-data.Post
+
+abbrev pub SasOpenRead : Type 0
+SasOpenRead = Outcome 10 sas-open-read-of.ps sas-open-read-of.r sas-open-read.Post
+
+abbrev pub SasOpenWrite : Type 0
+SasOpenWrite = Outcome 1 sas-open-write-of.ps sas-open-write-of.r sas-open-write.Post
+
+abbrev pub SasDataRead : Type 0
+SasDataRead = Outcome 7 sas-data-read-of.ps sas-data-read-of.r sas-data-read.Post
+
+abbrev pub SasDataWrite : Type 0
+SasDataWrite = Outcome 2 sas-data-write-of.ps sas-data-write-of.r sas-data-write.Post

@@ -1,0 +1,80 @@
+-- Demand 2, frames: both round trips of OPEN and of DATA, for what the calls themselves answer and leave, since their promises
+-- determine it. Assumes nothing.
+use Prim.Native.Nat.{ℕ}
+use mathlib.Core.Bool.{true}
+use mathlib.Core.List.{List, [], _++_, append-nil}
+use mathlib.Core.Path.{_≡_, sym, ap, _∙_, subst}
+use lib.Dec.{eqb}
+use lib.ListN.{length, take, drop, drop-of-length-le}
+use native.Mathlib.Omega.{arith}
+use lib.Seq.{take-at}
+use borrow.Author.Tests.{eq-eqb}
+use denote.Ref.{now}
+use Rattle.refusals.specs.Causes.{Wrote}
+use Rattle.refusals.specs.declared.Written.{Written}
+use Rattle.refusals.specs.declared.Written.the-variants.{Done}
+use Rattle.refusals.proofs.Frames.{done-wrote, wrote-is}
+use Rattle.open_frame.specs.Open.{openBytes, notCarried, cleared, headListed, readOpen, writeCauses as openWrites}
+use Rattle.open_frame.specs.declared.OpenFrame.{OpenFrame}
+use Rattle.open_frame.specs.declared.OpenRead.the-variants.{Frame as Open}
+use Rattle.open_frame.proofs.Trip.{Widths, read-written as open-back, written-read as open-forth, found as open-found}
+use Rattle.ssp_frame.specs.Data.{frameEnd, dataBytes, dataSized, dataListed, readData, writeCauses as dataWrites}
+use Rattle.ssp_frame.specs.declared.data.DataHead.{DataHead}
+use Rattle.ssp_frame.specs.declared.data.DataFrame.{DataFrame}
+use Rattle.ssp_frame.specs.declared.data.DataRead.the-variants.{Frame as Data}
+use Rattle.ssp_frame.proofs.Fields.{Listed, fitting, is-fitting, listed-is, is-listed}
+use Rattle.ssp_frame.proofs.Trip.{Typed, read-written as data-back, written-read as data-forth, fits, frame-long, body-held}
+use Rattle.claims.specs.Causes.{Bytes}
+use Rattle.claims.proofs.Calls.{Outcome, ReadOpen, WriteOpen, ReadData, WriteData}
+
+-- the round trips over the definitions, for any answer and bytes that a writer's promise admits
+module _ (f : OpenFrame) (before : List ℕ) {x : Written} {after : List ℕ} (w : Wrote (openWrites f before) (openBytes f) before x after) where
+  open-wrote : x ≡ Done → Widths f → readOpen after ≡ Open f
+  open-wrote e typed =
+      let d = done-wrote (openBytes f) before (eqb (length before) 28) (headListed (f .head)) w e in
+      ap readOpen (d .1 .1) ∙ open-back f (d .1 .0) typed
+
+  open-read : (s : List ℕ) → Bytes s → readOpen s ≡ Open f → length before ≡ 28 → (x ≡ Done) × (after ≡ cleared notCarried s)
+  open-read s small e long =
+      let r = open-found s f e in
+      let listed : headListed (f .head) ≡ true = sym (ap (λ (g : OpenFrame). headListed (g .head)) (r .same)) ∙ r .listed in
+      let d = wrote-is (openBytes f) before w (eq-eqb (length before) 28 long) listed in
+      (d .0, d .1 ∙ open-forth s f small e)
+
+module _ (h : DataHead) (body before : List ℕ) {x : Written} {after : List ℕ} (w : Wrote (dataWrites h body before) (dataBytes h body ++ drop (frameEnd (length body)) before) before x after) where
+  data-wrote : x ≡ Done → Typed h → let s = take (frameEnd (length body)) after in (readData s ≡ Data (record { head = h; length = length body })) × (take (length body) (drop 24 s) ≡ body)
+  data-wrote e typed =
+      let n = length body in
+      let d = done-wrote (dataBytes h body ++ drop (frameEnd n) before) before (dataSized n (length before)) (dataListed h) w e in
+      let fits = fitting n (length before) (d .0) in
+      let front : take (frameEnd n) after ≡ dataBytes h body = ap (take (frameEnd n)) (d .1 .1) ∙ take-at (dataBytes h body) (drop (frameEnd n) before) (frameEnd n) (frame-long h body) in
+      (ap readData front ∙ data-back h body (listed-is h (d .1 .0)) typed (fits .least) (fits .most), ap (λ (l : List ℕ). take n (drop 24 l)) front ∙ body-held h body)
+
+  data-read : (s : List ℕ) (f : DataFrame) → Bytes s → readData s ≡ Data f → h ≡ f .head → body ≡ take (f .length) (drop 24 s) → length before ≡ length s → (x ≡ Done) × (after ≡ s)
+  data-read s f small e eh eb el =
+      let ok = fits s f small e in
+      let n : length body ≡ f .length = ap length eb ∙ ok .count in
+      let end : frameEnd (length body) ≡ length before = ap frameEnd n ∙ ok .end ∙ sym el in
+      let sized = is-fitting (length body) (length before) (record { most = omega (arith, ok .most); least = omega (arith, ok .least); room = omega arith }) in
+      let listed = is-listed h (subst (λ (g : DataHead). Listed g) (sym eh) (ok .listed)) in
+      let d = wrote-is (dataBytes h body ++ drop (frameEnd (length body)) before) before w sized listed in
+      let none : drop (frameEnd (length body)) before ≡ [] = drop-of-length-le before {i = frameEnd (length body)} (omega arith) in
+      (d .0, d .1 ∙ ap (λ (l : List ℕ). dataBytes h body ++ l) none ∙ append-nil (dataBytes h body) ∙ (λ i. dataBytes (eh i) (eb i)) ∙ data-forth s f small e)
+
+-- what is written is read back, and what was read is written back: OPEN but for the bytes that are not carried, DATA whole
+-- 01 OPEN.1 01 OPEN.5 01 DATA.1 01 DATA.2
+pub record Frames : Type 0 where
+  pub open-written-read : (w : WriteOpen) (r : ReadOpen) → w .answer ≡ Done → Widths (w .args .0) → now (r .args .0) ≡ now (w .exit .1 .0) → r .answer ≡ Open (w .args .0)
+  pub open-read-written : (r : ReadOpen) (w : WriteOpen) → Bytes (now (r .args .0)) → r .answer ≡ Open (w .args .0) → length (now (w .args .1 .0)) ≡ 28 → (w .answer ≡ Done) × (now (w .exit .1 .0) ≡ cleared notCarried (now (r .args .0)))
+  pub data-written-read : (w : WriteData) (r : ReadData) → let body = now (w .args .1 .0) in w .answer ≡ Done → Typed (w .args .0) → now (r .args .0) ≡ take (frameEnd (length body)) (now (w .exit .1 .1 .0)) → (r .answer ≡ Data (record { head = w .args .0; length = length body })) × (take (length body) (drop 24 (now (r .args .0))) ≡ body)
+  pub data-read-written : (r : ReadData) (w : WriteData) (f : DataFrame) → Bytes (now (r .args .0)) → r .answer ≡ Data f → w .args .0 ≡ f .head → now (w .args .1 .0) ≡ take (f .length) (drop 24 (now (r .args .0))) → length (now (w .args .1 .1 .0)) ≡ length (now (r .args .0)) → (w .answer ≡ Done) × (now (w .exit .1 .1 .0) ≡ now (r .args .0))
+
+pub frames : Frames
+frames = record {
+  open-written-read = λ w r e typed same. r .met ∙ ap readOpen same ∙ open-wrote (w .args .0) (now (w .args .1 .0)) (w .met) e typed;
+  open-read-written = λ r w small e long. open-read (w .args .0) (now (w .args .1 .0)) (w .met) (now (r .args .0)) small (sym (r .met) ∙ e) long;
+  data-written-read = λ w r e typed same.
+      let d = data-wrote (w .args .0) (now (w .args .1 .0)) (now (w .args .1 .1 .0)) (w .met) e typed in
+      (r .met ∙ ap readData same ∙ d .0, ap (λ (l : List ℕ). take (length (now (w .args .1 .0))) (drop 24 l)) same ∙ d .1);
+  data-read-written = λ r w f small e eh eb el. data-read (w .args .0) (now (w .args .1 .0)) (now (w .args .1 .1 .0)) (w .met) (now (r .args .0)) f small (sym (r .met) ∙ e) eh eb el;
+}

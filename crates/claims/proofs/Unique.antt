@@ -1,0 +1,112 @@
+-- Each promise is an equation for the answer and for every lent number and byte, so two outcomes that both meet it are equal.
+-- The promises are those generated from the sources. Assumes nothing.
+use Prim.Native.Nat.{ℕ}
+use mathlib.Core.List.{List}
+use mathlib.Core.Path.{_≡_, refl, sym, _∙_}
+use borrow.Fn.Kinds as kinds
+use contract.Lifetimes
+use denote.Ref.{now}
+use denote.Triple.Clauses
+use Rattle.open_frame.specs.declared.OpenFrame.{OpenFrame}
+use Rattle.ssp_frame.specs.declared.data.DataFrame.{DataFrame}
+use Rattle.sonerwal.specs.Face.{open9, data6}
+use Rattle.refusals.proofs.Frames.{wrote-once}
+use Rattle.refusals.proofs.number.Kinds as number-of
+use Rattle.refusals.proofs.number.Reads as number
+use Rattle.refusals.proofs.answer.Kinds as answer-of
+use Rattle.refusals.proofs.answer.Reads as answer
+use Rattle.wire.proofs.get_be.Kinds as get-be-of
+use Rattle.wire.proofs.get_be.Reads as get-be
+use Rattle.wire.proofs.put_be.Kinds as put-be-of
+use Rattle.wire.proofs.put_be.Reads as put-be
+use Rattle.open_frame.proofs.listed.Kinds as open-listed-of
+use Rattle.open_frame.proofs.listed.Reads as open-listed
+use Rattle.open_frame.proofs.read_open.Kinds as read-open-of
+use Rattle.open_frame.proofs.read_open.Reads as read-open
+use Rattle.open_frame.proofs.write_open.Kinds as write-open-of
+use Rattle.open_frame.proofs.write_open.Reads as write-open
+use Rattle.open_frame.proofs.wait_value.Kinds as wait-value-of
+use Rattle.open_frame.proofs.wait_value.Reads as wait-value
+use Rattle.open_frame.proofs.higher.Kinds as higher-of
+use Rattle.open_frame.proofs.higher.Reads as higher
+use Rattle.ssp_frame.proofs.data.listed.Kinds as data-listed-of
+use Rattle.ssp_frame.proofs.data.listed.Reads as data-listed
+use Rattle.ssp_frame.proofs.data.read_data.Kinds as read-data-of
+use Rattle.ssp_frame.proofs.data.read_data.Reads as read-data
+use Rattle.ssp_frame.proofs.data.write_data.Kinds as write-data-of
+use Rattle.ssp_frame.proofs.data.write_data.Reads as write-data
+use Rattle.sonerwal.proofs.sas_open_read.Kinds as sas-open-read-of
+use Rattle.sonerwal.proofs.sas_open_read.Reads as sas-open-read
+use Rattle.sonerwal.proofs.sas_open_write.Kinds as sas-open-write-of
+use Rattle.sonerwal.proofs.sas_open_write.Reads as sas-open-write
+use Rattle.sonerwal.proofs.sas_data_read.Kinds as sas-data-read-of
+use Rattle.sonerwal.proofs.sas_data_read.Reads as sas-data-read
+use Rattle.sonerwal.proofs.sas_data_write.Kinds as sas-data-write-of
+use Rattle.sonerwal.proofs.sas_data_write.Reads as sas-data-write
+
+-- a function of n lifetimes, parameters ps and result r has one outcome: its answer, and what `left` reads of the lent at exit
+abbrev One : (n : ℕ) (ps : List (kinds.PK n)) (r : kinds.RK n) {L : Type 0} → ((κs : Lifetimes.Lfts n) → Clauses.AtExit (kinds.endedOf n ps r) κs → L) → kinds.Out n ps r → Type 0
+One n ps r left post = (κs : Lifetimes.Lfts n) (a : kinds.Dens κs ps) (x y : kinds.resT r κs .Denot) (s t : Clauses.AtExit (kinds.endedOf n ps r) κs) → post κs a x s → post κs a y t → (x ≡ y) × (left κs s ≡ left κs t)
+
+-- nothing lent can change
+abbrev none : (n : ℕ) (ps : List (kinds.PK n)) (r : kinds.RK n) (κs : Lifetimes.Lfts n) → Clauses.AtExit (kinds.endedOf n ps r) κs → Unit {0}
+none n ps r κs s = tt
+
+abbrev put-be-left : (κs : Lifetimes.Lfts 1) → Clauses.AtExit (kinds.endedOf 1 put-be-of.ps put-be-of.r) κs → List ℕ
+put-be-left κs s = now (s .0)
+
+abbrev write-open-left : (κs : Lifetimes.Lfts 1) → Clauses.AtExit (kinds.endedOf 1 write-open-of.ps write-open-of.r) κs → List ℕ
+write-open-left κs s = now (s .1 .0)
+
+abbrev write-data-left : (κs : Lifetimes.Lfts 2) → Clauses.AtExit (kinds.endedOf 2 write-data-of.ps write-data-of.r) κs → List ℕ
+write-data-left κs s = now (s .1 .1 .0)
+
+abbrev sas-open-read-left : (κs : Lifetimes.Lfts 10) → Clauses.AtExit (kinds.endedOf 10 sas-open-read-of.ps sas-open-read-of.r) κs → OpenFrame
+sas-open-read-left κs s = open9 (now (s .1 .0)) (now (s .1 .1 .0)) (now (s .1 .1 .1 .0)) (now (s .1 .1 .1 .1 .0)) (now (s .1 .1 .1 .1 .1 .0)) (now (s .1 .1 .1 .1 .1 .1 .0)) (now (s .1 .1 .1 .1 .1 .1 .1 .0)) (now (s .1 .1 .1 .1 .1 .1 .1 .1 .0)) (now (s .1 .1 .1 .1 .1 .1 .1 .1 .1 .0))
+
+abbrev sas-open-write-left : (κs : Lifetimes.Lfts 1) → Clauses.AtExit (kinds.endedOf 1 sas-open-write-of.ps sas-open-write-of.r) κs → List ℕ
+sas-open-write-left κs s = now (s .1 .1 .1 .1 .1 .1 .1 .1 .1 .0)
+
+abbrev sas-data-read-left : (κs : Lifetimes.Lfts 7) → Clauses.AtExit (kinds.endedOf 7 sas-data-read-of.ps sas-data-read-of.r) κs → DataFrame
+sas-data-read-left κs s = data6 (now (s .1 .0)) (now (s .1 .1 .0)) (now (s .1 .1 .1 .0)) (now (s .1 .1 .1 .1 .0)) (now (s .1 .1 .1 .1 .1 .0)) (now (s .1 .1 .1 .1 .1 .1 .0))
+
+abbrev sas-data-write-left : (κs : Lifetimes.Lfts 2) → Clauses.AtExit (kinds.endedOf 2 sas-data-write-of.ps sas-data-write-of.r) κs → List ℕ
+sas-data-write-left κs s = now (s .1 .1 .1 .1 .1 .1 .0)
+
+pub record Unique : Type 0 where
+  pub number : One 0 number-of.ps number-of.r (none 0 number-of.ps number-of.r) number.Post
+  pub answer : One 0 answer-of.ps answer-of.r (none 0 answer-of.ps answer-of.r) answer.Post
+  pub get-be : One 1 get-be-of.ps get-be-of.r (none 1 get-be-of.ps get-be-of.r) get-be.Post
+  pub put-be : One 1 put-be-of.ps put-be-of.r put-be-left put-be.Post
+  pub open-listed : One 0 open-listed-of.ps open-listed-of.r (none 0 open-listed-of.ps open-listed-of.r) open-listed.Post
+  pub read-open : One 1 read-open-of.ps read-open-of.r (none 1 read-open-of.ps read-open-of.r) read-open.Post
+  pub write-open : One 1 write-open-of.ps write-open-of.r write-open-left write-open.Post
+  pub wait-value : One 0 wait-value-of.ps wait-value-of.r (none 0 wait-value-of.ps wait-value-of.r) wait-value.Post
+  pub higher : One 0 higher-of.ps higher-of.r (none 0 higher-of.ps higher-of.r) higher.Post
+  pub data-listed : One 0 data-listed-of.ps data-listed-of.r (none 0 data-listed-of.ps data-listed-of.r) data-listed.Post
+  pub read-data : One 1 read-data-of.ps read-data-of.r (none 1 read-data-of.ps read-data-of.r) read-data.Post
+  pub write-data : One 2 write-data-of.ps write-data-of.r write-data-left write-data.Post
+  pub sas-open-read : One 10 sas-open-read-of.ps sas-open-read-of.r sas-open-read-left sas-open-read.Post
+  pub sas-open-write : One 1 sas-open-write-of.ps sas-open-write-of.r sas-open-write-left sas-open-write.Post
+  pub sas-data-read : One 7 sas-data-read-of.ps sas-data-read-of.r sas-data-read-left sas-data-read.Post
+  pub sas-data-write : One 2 sas-data-write-of.ps sas-data-write-of.r sas-data-write-left sas-data-write.Post
+
+pub unique : Unique
+unique = record {
+  number = λ κs a x y s t p q. (p ∙ sym q, refl);
+  answer = λ κs a x y s t p q. (p ∙ sym q, refl);
+  get-be = λ κs a x y s t p q. (p .number ∙ sym (q .number), refl);
+  put-be = λ κs a x y s t p q. (refl, p ∙ sym q);
+  open-listed = λ κs a x y s t p q. (p ∙ sym q, refl);
+  read-open = λ κs a x y s t p q. (p ∙ sym q, refl);
+  write-open = λ κs a x y s t p q. wrote-once p q;
+  wait-value = λ κs a x y s t p q. (p ∙ sym q, refl);
+  higher = λ κs a x y s t p q. (p ∙ sym q, refl);
+  data-listed = λ κs a x y s t p q. (p ∙ sym q, refl);
+  read-data = λ κs a x y s t p q. (p ∙ sym q, refl);
+  write-data = λ κs a x y s t p q. wrote-once p q;
+  sas-open-read = λ κs a x y s t p q. (p .answer ∙ sym (q .answer), p .lent ∙ sym (q .lent));
+  sas-open-write = λ κs a x y s t p q. (p .answer ∙ sym (q .answer), p .lent ∙ sym (q .lent));
+  sas-data-read = λ κs a x y s t p q. (p .answer ∙ sym (q .answer), p .lent ∙ sym (q .lent));
+  sas-data-write = λ κs a x y s t p q. (p .answer ∙ sym (q .answer), p .lent ∙ sym (q .lent));
+}

@@ -1,0 +1,67 @@
+-- Document 01's causes of refusal as propositions, in its words, byte by byte: what has to hold for a call not to be refused.
+-- Assumes nothing.
+use Prim.Native.Nat.{ℕ, _+_, _-_, _*_, _/_, _%_, _≤_, _<_}
+use mathlib.Core.List.{List}
+use mathlib.Core.Path.{_≡_}
+use lib.ListN.{length, getD}
+use mathlib.Core.Logic.{_↔_}
+use Rattle.refusals.specs.Causes.{frameGrounds, First, None}
+use Rattle.refusals.specs.declared.Refusal.{Refusal}
+use Rattle.open_frame.specs.declared.Head.{Head}
+use Rattle.ssp_frame.specs.declared.data.DataHead.{DataHead}
+
+-- a slice of bytes
+abbrev pub Bytes : List ℕ → Type 0
+Bytes s = (i : ℕ) → getD s i 0 < 256
+
+-- 01 OPEN.6: Any other length is refusal 1, any other type, protocol or rate 2.
+pub record OpenBytes (s : List ℕ) : Type 0 where
+  pub kind : getD s 0 0 % 16 ≡ 1
+  pub protocol : getD s 0 0 / 16 % 8 ≤ 2
+  pub least : 8 ≤ getD s 1 0 % 16
+  pub most : getD s 1 0 % 16 ≤ 10
+
+pub record OpenFields (h : Head) : Type 0 where
+  pub initiator : h .initiator ≤ 1
+  pub protocol : h .protocol ≤ 2
+  pub features : h .features ≤ 15
+  pub least : 8 ≤ h .rate
+  pub most : h .rate ≤ 10
+
+-- 01 DATA.3: Data of the wrong length, or an output shorter than the frame: refusal 1; bytes past the frame stay.
+-- n bytes of data, and m of output; a frame is a multiple of four bytes long
+pub record DataLengths (n m : ℕ) : Type 0 where
+  pub least : 1 ≤ n
+  pub most : n ≤ 1024
+  pub room : 24 + (n + 3) / 4 * 4 ≤ m
+
+pub record DataFields (h : DataHead) : Type 0 where
+  pub destination : h .destination ≤ 16777215
+  pub source : h .source ≤ 16777215
+  pub changing : h .changing ≤ 1
+
+-- 01 DATA.4: The reader takes 28 to 1,048 bytes, a multiple of four, else 1; any header byte off this layout or fill not zero is 2.
+pub record DataLength (n : ℕ) : Type 0 where
+  pub least : 28 ≤ n
+  pub most : n ≤ 1048
+  pub four : n % 4 ≡ 0
+
+pub record DataBytes (s : List ℕ) : Type 0 where
+  pub kind : getD s 0 0 ≡ 1
+  pub byte4 : getD s 4 0 ≡ 0
+  pub bytes8-9 : (i : ℕ) → i < 2 → getD s (8 + i) 0 ≡ 0
+  pub byte10 : getD s 10 0 ≤ 1
+  pub byte11 : getD s 11 0 ≤ 3
+  pub bytes12-15 : (i : ℕ) → i < 4 → getD s (12 + i) 0 ≡ 0
+  pub byte18 : getD s 18 0 ≡ 255
+  pub byte19 : getD s 19 0 ≡ 255
+  pub fill : (i : ℕ) → i < getD s 11 0 → getD s (length s - getD s 11 0 + i) 0 ≡ 0
+
+-- what is claimed of a call with the answer x, and with what it was lent before and after
+pub record Answers {A L : Type 0} (refused : Refusal → A) (done x : A) (right listed : Type 0) (before after : L) : Type 1 where
+  -- refusal k exactly if k is the first cause that holds
+  pub exactly : (k : Refusal) → (x ≡ refused k) ↔ First (frameGrounds right listed) k
+  -- and the other answer exactly if none does
+  pub otherwise : (x ≡ done) ↔ None (frameGrounds right listed)
+  -- a refusal leaves everything as it was
+  pub keeps : (k : Refusal) → x ≡ refused k → after ≡ before

@@ -1,0 +1,2 @@
+-- What the claims say in words of their own.
+pub mod Causes

@@ -1,0 +1,2 @@
+-- Definitions that name no SAS word.
+pub mod Order

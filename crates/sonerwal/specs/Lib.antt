@@ -1,0 +1,2 @@
+-- What the C face promises.
+pub mod Face

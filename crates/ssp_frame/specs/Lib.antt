@@ -1,0 +1,3 @@
+-- Document 01, 'Read transfer', paragraph 'DATA frame'.
+pub mod Header
+pub mod Data
