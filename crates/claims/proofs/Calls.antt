@@ -23,6 +23,26 @@ use Rattle.sonerwal.proofs.sas_data_read.Kinds as sas-data-read-of
 use Rattle.sonerwal.proofs.sas_data_read.Reads as sas-data-read
 use Rattle.sonerwal.proofs.sas_data_write.Kinds as sas-data-write-of
 use Rattle.sonerwal.proofs.sas_data_write.Reads as sas-data-write
+use Rattle.transfer.proofs.Transfer.start.Kinds as start-of
+use Rattle.transfer.proofs.Transfer.start.Reads as start
+use Rattle.transfer.proofs.Transfer.frame.Kinds as frame-of
+use Rattle.transfer.proofs.Transfer.frame.Reads as frame
+use Rattle.transfer.proofs.Transfer.ack.Kinds as ack-of
+use Rattle.transfer.proofs.Transfer.ack.Reads as ack
+use Rattle.transfer.proofs.Transfer.nak.Kinds as nak-of
+use Rattle.transfer.proofs.Transfer.nak.Reads as nak
+use Rattle.transfer.proofs.Transfer.timeout.Kinds as timeout-of
+use Rattle.transfer.proofs.Transfer.timeout.Reads as timeout
+use Rattle.transfer.proofs.Transfer.lost.Kinds as lost-of
+use Rattle.transfer.proofs.Transfer.lost.Reads as lost
+use Rattle.transfer.proofs.Transfer.nexus.Kinds as nexus-of
+use Rattle.transfer.proofs.Transfer.nexus.Reads as nexus
+use Rattle.transfer.proofs.Transfer.cancel.Kinds as cancel-of
+use Rattle.transfer.proofs.Transfer.cancel.Reads as cancel
+use Rattle.transfer.proofs.Transfer.taken.Kinds as taken-of
+use Rattle.transfer.proofs.Transfer.taken.Reads as taken
+use Rattle.send.proofs.next_frame.Kinds as next-frame-of
+use Rattle.send.proofs.next_frame.Reads as next-frame
 
 -- of a function of n lifetimes, parameters ps and result r, with this promise
 pub record Outcome (n : ℕ) (ps : List (kinds.PK n)) (r : kinds.RK n) (post : kinds.Out n ps r) : Type 0 where
@@ -58,3 +78,33 @@ SasDataRead = Outcome 7 sas-data-read-of.ps sas-data-read-of.r sas-data-read.Pos
 
 abbrev pub SasDataWrite : Type 0
 SasDataWrite = Outcome 2 sas-data-write-of.ps sas-data-write-of.r sas-data-write.Post
+
+abbrev pub Start : Type 0
+Start = Outcome 0 start-of.ps start-of.r start.Post
+
+abbrev pub Frame : Type 0
+Frame = Outcome 0 frame-of.ps frame-of.r frame.Post
+
+abbrev pub Ack : Type 0
+Ack = Outcome 0 ack-of.ps ack-of.r ack.Post
+
+abbrev pub Nak : Type 0
+Nak = Outcome 0 nak-of.ps nak-of.r nak.Post
+
+abbrev pub Timeout : Type 0
+Timeout = Outcome 0 timeout-of.ps timeout-of.r timeout.Post
+
+abbrev pub Lost : Type 0
+Lost = Outcome 0 lost-of.ps lost-of.r lost.Post
+
+abbrev pub Nexus : Type 0
+Nexus = Outcome 0 nexus-of.ps nexus-of.r nexus.Post
+
+abbrev pub Cancel : Type 0
+Cancel = Outcome 0 cancel-of.ps cancel-of.r cancel.Post
+
+abbrev pub Taken : Type 0
+Taken = Outcome 0 taken-of.ps taken-of.r taken.Post
+
+abbrev pub NextFrame : Type 0
+NextFrame = Outcome 2 next-frame-of.ps next-frame-of.r next-frame.Post

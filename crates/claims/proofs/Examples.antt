@@ -1,11 +1,18 @@
 -- Document 01's P lines, one table under one claim: each is computed from the definitions, or is a case of their laws. Assumes nothing.
 use mathlib.Core.Bool.{true, false}
+use mathlib.Core.List.{[], _∷_}
 use mathlib.Core.Path.{_≡_, refl}
 use Prim.Native.Nat.{ℕ, _<_}
 use Rattle.open_frame.specs.Priority.{higherThan}
 use Rattle.open_frame.specs.Wait.{waitOf}
 use Rattle.open_frame.specs.declared.Head.{Head}
 use Rattle.open_frame.specs.declared.OpenFrame.{OpenFrame}
+use Rattle.transfer.specs.Rules.{before}
+use Rattle.transfer.specs.Steps.{bound64}
+use Rattle.transfer.specs.Calls.{start, frame as framed, run}
+use Rattle.transfer.specs.Examples.{line, listing, times, listed}
+use Rattle.transfer.specs.declared.Answer.{Answer}
+use Rattle.transfer.proofs.Examples.{p10 as listing-is, p11 as sixteen}
 use Rattle.claims.proofs.Priority.{not-higher}
 
 -- an OPEN frame with this AWT and source, whatever its other fields
@@ -16,6 +23,7 @@ frame h pbc awt source = record {
   awt = record { 0 = awt };
 }
 
+-- 01 PROMISE.5: The P lines are one proved table under a single claim; the rest, and published vectors, are run.
 pub record Examples : Type 0 where
   -- 01 OPEN.7
   -- 01 EXAMPLE.1: P1-P6, waits: 32,767: itself; 32,768 and 33,767: 32,768; 33,768: 32,769; 32,799,767: 65,534; 32,799,768: 65,535.
@@ -29,6 +37,22 @@ pub record Examples : Type 0 where
   pub p7 : (h k : Head) (p q source larger : ℕ) → source < larger → higherThan (frame h p 2 source) (frame k q 1 larger) ≡ true
   -- 01 EXAMPLE.3: P8 equal both: not higher.
   pub p8 : (h k : Head) (p q awt source : ℕ) → higherThan (frame h p awt source) (frame k q awt source) ≡ false
+  -- 01 READ.5 01 READ.8
+  -- 01 EXAMPLE.5: P10 the listing.
+  pub p10 :
+      listing bound64 1 listed before
+      ≡ line 1 Answer.Ok 0 0 0 0
+      ∷ line 2 Answer.Sent 4 0 1 0
+      ∷ line 3 Answer.Sent 8 0 2 0
+      ∷ line 4 Answer.Drain 8 0 1 0
+      ∷ line 5 Answer.Retry 0 0 0 1
+      ∷ line 6 Answer.Sent 4 0 1 1
+      ∷ line 7 Answer.Ok 4 4 0 1
+      ∷ line 8 Answer.Sent 8 4 1 1
+      ∷ line 9 Answer.Done 8 8 0 1
+      ∷ []
+  -- 01 EXAMPLE.6: P11 B 0, M 4, N 100, sixteen frames, no answer: balance 0, unanswered 16.
+  pub p11 : let s = run bound64 (start 0 100 4 0 ∷ times 16 framed) before in (s .balance ≡ 0) × (s .unanswered ≡ 16)
 
 pub examples : Examples
 examples = record {
@@ -40,4 +64,6 @@ examples = record {
   p6 = refl;
   p7 = λ h k p q source larger l. refl;
   p8 = λ h k p q awt source. not-higher (frame h p awt source) (frame k q awt source) (record { awt = refl; source = refl });
+  p10 = listing-is;
+  p11 = sixteen;
 }

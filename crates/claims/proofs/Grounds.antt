@@ -5,19 +5,19 @@ use mathlib.Core.List.{List}
 use mathlib.Core.Logic.{_↔_}
 use mathlib.Core.Path.{_≡_}
 use native.Mathlib.Omega.{arith}
-use lib.Dec.{eqb}
+use lib.Dec.{eqb, leb}
 use lib.ListN.{length, getD}
-use borrow.Author.Tests.{eqb-true, eq-eqb}
+use borrow.Author.Tests.{eqb-true, eq-eqb, leb-true, le-leb}
 use Rattle.laws.proofs.Bools.{and-left, and-right, and-true}
 use Rattle.wire.proofs.Laws.{zero-bytes, bytes-zero}
 use Rattle.open_frame.specs.Open.{headOf, headListed, typed}
 use Rattle.open_frame.specs.declared.Head.{Head}
 use Rattle.open_frame.proofs.Fields as address
 use Rattle.ssp_frame.specs.Header.{headerOf, blank}
-use Rattle.ssp_frame.specs.Data.{dataSized, dataListed, frameSized, kindListed, filled}
+use Rattle.ssp_frame.specs.Data.{frameEnd, dataSized, dataListed, frameSized, kindListed, filled}
 use Rattle.ssp_frame.specs.declared.data.DataHead.{DataHead}
 use Rattle.ssp_frame.proofs.Fields as ssp
-use Rattle.claims.specs.Causes.{Bytes, OpenBytes, OpenFields, DataLengths, DataFields, DataLength, DataBytes}
+use Rattle.claims.specs.Causes.{Bytes, OpenBytes, OpenFields, DataLengths, DataFields, DataLength, DataBytes, NextLengths}
 
 pub open-length : (s : List ℕ) → (eqb (length s) 28 ≡ true) ↔ (length s ≡ 28)
 open-length s = (eqb-true (length s) 28, eq-eqb (length s) 28)
@@ -66,6 +66,16 @@ data-fields h = (there, back)
 
     back : DataFields h → dataListed h ≡ true
     back f = ssp.is-listed h (omega (arith, f))
+
+-- the output takes the data and their fill
+pub next-lengths : (count n m : ℕ) → (eqb n count && leb (frameEnd n) m ≡ true) ↔ NextLengths count n m
+next-lengths count n m = (there, back)
+  where
+    there : eqb n count && leb (frameEnd n) m ≡ true → NextLengths count n m
+    there e = let room = leb-true (frameEnd n) m (and-right (eqb n count) _ e) in record { body = eqb-true n count (and-left (eqb n count) _ e); room = omega (arith, room) }
+
+    back : NextLengths count n m → eqb n count && leb (frameEnd n) m ≡ true
+    back l = let room = l .room in and-true (eq-eqb n count (l .body)) (le-leb (frameEnd n) m (omega (arith, room)))
 
 pub data-length : (n : ℕ) → (frameSized n ≡ true) ↔ DataLength n
 data-length n = (there, back)

@@ -1,9 +1,13 @@
 -- The owner's demands, one file for each.
+pub mod Balance
 mod Calls
 pub mod Examples
+pub mod Exact
 pub mod Frames
 mod Grounds
 pub mod Priority
 pub mod Refusals
+pub mod StepRefusals
+pub mod Steps
 pub mod Total
 pub mod Unique

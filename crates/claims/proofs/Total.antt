@@ -28,6 +28,30 @@ use Rattle.ssp_frame.proofs.data.read_data.Kinds as read-data-of
 use Rattle.ssp_frame.proofs.data.read_data.Reads as read-data
 use Rattle.ssp_frame.proofs.data.write_data.Kinds as write-data-of
 use Rattle.ssp_frame.proofs.data.write_data.Reads as write-data
+use Rattle.transfer.proofs.Transfer.unstarted.Kinds as unstarted-of
+use Rattle.transfer.proofs.Transfer.unstarted.Reads as unstarted
+use Rattle.transfer.proofs.Transfer.taken.Kinds as taken-of
+use Rattle.transfer.proofs.Transfer.taken.Reads as taken
+use Rattle.transfer.proofs.Transfer.frame_length.Kinds as frame-length-of
+use Rattle.transfer.proofs.Transfer.frame_length.Reads as frame-length
+use Rattle.transfer.proofs.Transfer.start.Kinds as start-of
+use Rattle.transfer.proofs.Transfer.start.Reads as start
+use Rattle.transfer.proofs.Transfer.frame.Kinds as frame-of
+use Rattle.transfer.proofs.Transfer.frame.Reads as frame
+use Rattle.transfer.proofs.Transfer.ack.Kinds as ack-of
+use Rattle.transfer.proofs.Transfer.ack.Reads as ack
+use Rattle.transfer.proofs.Transfer.nak.Kinds as nak-of
+use Rattle.transfer.proofs.Transfer.nak.Reads as nak
+use Rattle.transfer.proofs.Transfer.timeout.Kinds as timeout-of
+use Rattle.transfer.proofs.Transfer.timeout.Reads as timeout
+use Rattle.transfer.proofs.Transfer.lost.Kinds as lost-of
+use Rattle.transfer.proofs.Transfer.lost.Reads as lost
+use Rattle.transfer.proofs.Transfer.nexus.Kinds as nexus-of
+use Rattle.transfer.proofs.Transfer.nexus.Reads as nexus
+use Rattle.transfer.proofs.Transfer.cancel.Kinds as cancel-of
+use Rattle.transfer.proofs.Transfer.cancel.Reads as cancel
+use Rattle.send.proofs.next_frame.Kinds as next-frame-of
+use Rattle.send.proofs.next_frame.Reads as next-frame
 use Rattle.sonerwal.proofs.sas_open_read.Kinds as sas-open-read-of
 use Rattle.sonerwal.proofs.sas_open_read.Reads as sas-open-read
 use Rattle.sonerwal.proofs.sas_open_write.Kinds as sas-open-write-of
@@ -54,6 +78,18 @@ pub record Total : Type 0 where
   pub data-listed : Anything 0 data-listed-of.ps data-listed.Pre
   pub read-data : Anything 1 read-data-of.ps read-data.Pre
   pub write-data : Anything 2 write-data-of.ps write-data.Pre
+  pub unstarted : Anything 0 unstarted-of.ps unstarted.Pre
+  pub taken : Anything 0 taken-of.ps taken.Pre
+  pub frame-length : Anything 0 frame-length-of.ps frame-length.Pre
+  pub start : Anything 0 start-of.ps start.Pre
+  pub frame : Anything 0 frame-of.ps frame.Pre
+  pub ack : Anything 0 ack-of.ps ack.Pre
+  pub nak : Anything 0 nak-of.ps nak.Pre
+  pub timeout : Anything 0 timeout-of.ps timeout.Pre
+  pub lost : Anything 0 lost-of.ps lost.Pre
+  pub nexus : Anything 0 nexus-of.ps nexus.Pre
+  pub cancel : Anything 0 cancel-of.ps cancel.Pre
+  pub next-frame : Anything 2 next-frame-of.ps next-frame.Pre
   pub sas-open-read : Anything 10 sas-open-read-of.ps sas-open-read.Pre
   pub sas-open-write : Anything 1 sas-open-write-of.ps sas-open-write.Pre
   pub sas-data-read : Anything 7 sas-data-read-of.ps sas-data-read.Pre
@@ -73,6 +109,18 @@ total = record {
   data-listed = λ κs a. tt;
   read-data = λ κs a. tt;
   write-data = λ κs a. tt;
+  unstarted = λ κs a. tt;
+  taken = λ κs a. tt;
+  frame-length = λ κs a. tt;
+  start = λ κs a. tt;
+  frame = λ κs a. tt;
+  ack = λ κs a. tt;
+  nak = λ κs a. tt;
+  timeout = λ κs a. tt;
+  lost = λ κs a. tt;
+  nexus = λ κs a. tt;
+  cancel = λ κs a. tt;
+  next-frame = λ κs a. tt;
   sas-open-read = λ κs a. tt;
   sas-open-write = λ κs a. tt;
   sas-data-read = λ κs a. tt;

@@ -35,6 +35,30 @@ use Rattle.ssp_frame.proofs.data.read_data.Kinds as read-data-of
 use Rattle.ssp_frame.proofs.data.read_data.Reads as read-data
 use Rattle.ssp_frame.proofs.data.write_data.Kinds as write-data-of
 use Rattle.ssp_frame.proofs.data.write_data.Reads as write-data
+use Rattle.transfer.proofs.Transfer.unstarted.Kinds as unstarted-of
+use Rattle.transfer.proofs.Transfer.unstarted.Reads as unstarted
+use Rattle.transfer.proofs.Transfer.taken.Kinds as taken-of
+use Rattle.transfer.proofs.Transfer.taken.Reads as taken
+use Rattle.transfer.proofs.Transfer.frame_length.Kinds as frame-length-of
+use Rattle.transfer.proofs.Transfer.frame_length.Reads as frame-length
+use Rattle.transfer.proofs.Transfer.start.Kinds as start-of
+use Rattle.transfer.proofs.Transfer.start.Reads as start
+use Rattle.transfer.proofs.Transfer.frame.Kinds as frame-of
+use Rattle.transfer.proofs.Transfer.frame.Reads as frame
+use Rattle.transfer.proofs.Transfer.ack.Kinds as ack-of
+use Rattle.transfer.proofs.Transfer.ack.Reads as ack
+use Rattle.transfer.proofs.Transfer.nak.Kinds as nak-of
+use Rattle.transfer.proofs.Transfer.nak.Reads as nak
+use Rattle.transfer.proofs.Transfer.timeout.Kinds as timeout-of
+use Rattle.transfer.proofs.Transfer.timeout.Reads as timeout
+use Rattle.transfer.proofs.Transfer.lost.Kinds as lost-of
+use Rattle.transfer.proofs.Transfer.lost.Reads as lost
+use Rattle.transfer.proofs.Transfer.nexus.Kinds as nexus-of
+use Rattle.transfer.proofs.Transfer.nexus.Reads as nexus
+use Rattle.transfer.proofs.Transfer.cancel.Kinds as cancel-of
+use Rattle.transfer.proofs.Transfer.cancel.Reads as cancel
+use Rattle.send.proofs.next_frame.Kinds as next-frame-of
+use Rattle.send.proofs.next_frame.Reads as next-frame
 use Rattle.sonerwal.proofs.sas_open_read.Kinds as sas-open-read-of
 use Rattle.sonerwal.proofs.sas_open_read.Reads as sas-open-read
 use Rattle.sonerwal.proofs.sas_open_write.Kinds as sas-open-write-of
@@ -61,6 +85,9 @@ write-open-left κs s = now (s .1 .0)
 abbrev write-data-left : (κs : Lifetimes.Lfts 2) → Clauses.AtExit (kinds.endedOf 2 write-data-of.ps write-data-of.r) κs → List ℕ
 write-data-left κs s = now (s .1 .1 .0)
 
+abbrev next-frame-left : (κs : Lifetimes.Lfts 2) → Clauses.AtExit (kinds.endedOf 2 next-frame-of.ps next-frame-of.r) κs → List ℕ
+next-frame-left κs s = now (s .1 .1 .1 .1 .1 .0)
+
 abbrev sas-open-read-left : (κs : Lifetimes.Lfts 10) → Clauses.AtExit (kinds.endedOf 10 sas-open-read-of.ps sas-open-read-of.r) κs → OpenFrame
 sas-open-read-left κs s = open9 (now (s .1 .0)) (now (s .1 .1 .0)) (now (s .1 .1 .1 .0)) (now (s .1 .1 .1 .1 .0)) (now (s .1 .1 .1 .1 .1 .0)) (now (s .1 .1 .1 .1 .1 .1 .0)) (now (s .1 .1 .1 .1 .1 .1 .1 .0)) (now (s .1 .1 .1 .1 .1 .1 .1 .1 .0)) (now (s .1 .1 .1 .1 .1 .1 .1 .1 .1 .0))
 
@@ -73,6 +100,9 @@ sas-data-read-left κs s = data6 (now (s .1 .0)) (now (s .1 .1 .0)) (now (s .1 .
 abbrev sas-data-write-left : (κs : Lifetimes.Lfts 2) → Clauses.AtExit (kinds.endedOf 2 sas-data-write-of.ps sas-data-write-of.r) κs → List ℕ
 sas-data-write-left κs s = now (s .1 .1 .1 .1 .1 .1 .0)
 
+-- 01 PROMISE.1: Each public function's promise determines its answer, new state and each lent byte, on refusals too.
+-- 01 PROMISE.2: Prove that it admits no second answer; list exceptions in docs/ and why.
+-- 01 READ.4
 pub record Unique : Type 0 where
   pub number : One 0 number-of.ps number-of.r (none 0 number-of.ps number-of.r) number.Post
   pub answer : One 0 answer-of.ps answer-of.r (none 0 answer-of.ps answer-of.r) answer.Post
@@ -86,6 +116,18 @@ pub record Unique : Type 0 where
   pub data-listed : One 0 data-listed-of.ps data-listed-of.r (none 0 data-listed-of.ps data-listed-of.r) data-listed.Post
   pub read-data : One 1 read-data-of.ps read-data-of.r (none 1 read-data-of.ps read-data-of.r) read-data.Post
   pub write-data : One 2 write-data-of.ps write-data-of.r write-data-left write-data.Post
+  pub unstarted : One 0 unstarted-of.ps unstarted-of.r (none 0 unstarted-of.ps unstarted-of.r) unstarted.Post
+  pub taken : One 0 taken-of.ps taken-of.r (none 0 taken-of.ps taken-of.r) taken.Post
+  pub frame-length : One 0 frame-length-of.ps frame-length-of.r (none 0 frame-length-of.ps frame-length-of.r) frame-length.Post
+  pub start : One 0 start-of.ps start-of.r (none 0 start-of.ps start-of.r) start.Post
+  pub frame : One 0 frame-of.ps frame-of.r (none 0 frame-of.ps frame-of.r) frame.Post
+  pub ack : One 0 ack-of.ps ack-of.r (none 0 ack-of.ps ack-of.r) ack.Post
+  pub nak : One 0 nak-of.ps nak-of.r (none 0 nak-of.ps nak-of.r) nak.Post
+  pub timeout : One 0 timeout-of.ps timeout-of.r (none 0 timeout-of.ps timeout-of.r) timeout.Post
+  pub lost : One 0 lost-of.ps lost-of.r (none 0 lost-of.ps lost-of.r) lost.Post
+  pub nexus : One 0 nexus-of.ps nexus-of.r (none 0 nexus-of.ps nexus-of.r) nexus.Post
+  pub cancel : One 0 cancel-of.ps cancel-of.r (none 0 cancel-of.ps cancel-of.r) cancel.Post
+  pub next-frame : One 2 next-frame-of.ps next-frame-of.r next-frame-left next-frame.Post
   pub sas-open-read : One 10 sas-open-read-of.ps sas-open-read-of.r sas-open-read-left sas-open-read.Post
   pub sas-open-write : One 1 sas-open-write-of.ps sas-open-write-of.r sas-open-write-left sas-open-write.Post
   pub sas-data-read : One 7 sas-data-read-of.ps sas-data-read-of.r sas-data-read-left sas-data-read.Post
@@ -105,6 +147,18 @@ unique = record {
   data-listed = λ κs a x y s t p q. (p ∙ sym q, refl);
   read-data = λ κs a x y s t p q. (p ∙ sym q, refl);
   write-data = λ κs a x y s t p q. wrote-once p q;
+  unstarted = λ κs a x y s t p q. (p ∙ sym q, refl);
+  taken = λ κs a x y s t p q. (p ∙ sym q, refl);
+  frame-length = λ κs a x y s t p q. (p ∙ sym q, refl);
+  start = λ κs a x y s t p q. (p ∙ sym q, refl);
+  frame = λ κs a x y s t p q. (p ∙ sym q, refl);
+  ack = λ κs a x y s t p q. (p ∙ sym q, refl);
+  nak = λ κs a x y s t p q. (p ∙ sym q, refl);
+  timeout = λ κs a x y s t p q. (p ∙ sym q, refl);
+  lost = λ κs a x y s t p q. (p ∙ sym q, refl);
+  nexus = λ κs a x y s t p q. (p ∙ sym q, refl);
+  cancel = λ κs a x y s t p q. (p ∙ sym q, refl);
+  next-frame = λ κs a x y s t p q. (p .step ∙ sym (q .step), p .bytes ∙ sym (q .bytes));
   sas-open-read = λ κs a x y s t p q. (p .answer ∙ sym (q .answer), p .lent ∙ sym (q .lent));
   sas-open-write = λ κs a x y s t p q. (p .answer ∙ sym (q .answer), p .lent ∙ sym (q .lent));
   sas-data-read = λ κs a x y s t p q. (p .answer ∙ sym (q .answer), p .lent ∙ sym (q .lent));

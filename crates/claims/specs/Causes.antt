@@ -57,6 +57,12 @@ pub record DataBytes (s : List ℕ) : Type 0 where
   pub byte19 : getD s 19 0 ≡ 255
   pub fill : (i : ℕ) → i < getD s 11 0 → getD s (length s - getD s 11 0 + i) 0 ≡ 0
 
+-- 01 READ.2
+-- n bytes of data for a frame of `count` bytes, and m of output
+pub record NextLengths (count n m : ℕ) : Type 0 where
+  pub body : n ≡ count
+  pub room : 24 + (n + 3) / 4 * 4 ≤ m
+
 -- what is claimed of a call with the answer x, and with what it was lent before and after
 pub record Answers {A L : Type 0} (refused : Refusal → A) (done x : A) (right listed : Type 0) (before after : L) : Type 1 where
   -- refusal k exactly if k is the first cause that holds

@@ -1,11 +1,62 @@
 -- A call is refused with k exactly if k is the first ground that holds: each test decides its ground, and the list is walked
 -- once for the tests and once for the grounds. Assumes nothing.
-use mathlib.Core.Path.{_≡_, refl, sym}
-use mathlib.Core.Bool.{Bool, true, false, cond}
-use mathlib.Core.List.{List, [], _∷_}
+use mathlib.Core.Path.{_≡_, refl, sym, ap, subst, _∙_}
+use mathlib.Core.Bool.{Bool, true, false, not, cond}
+use mathlib.Core.Logic.{_↔_}
+use mathlib.Core.List.{List, [], _∷_, _++_}
 use Rattle.laws.proofs.Bools.{never}
 use Rattle.refusals.specs.Causes.{Cause, Ground, refuse, First, here, later, None, end, past, Decides, nil, cons}
 use Rattle.refusals.specs.declared.Refusal.{Refusal}
+
+-- causes that are checked after others
+pub refuse-append : {A : Type 0} (refused : Refusal → A) (cs ds : List Cause) (a : A) → refuse refused (cs ++ ds) a ≡ refuse refused cs (refuse refused ds a)
+refuse-append refused [] ds a = refl
+refuse-append refused (c ∷ cs) ds a = ap (cond (c .given) (refused (c .refusal))) (refuse-append refused cs ds a)
+
+-- no cause is given
+abbrev pub NoneGiven : List Cause → Type 0
+NoneGiven [] = Unit {0}
+NoneGiven (c ∷ cs) = (c .given ≡ false) × NoneGiven cs
+
+pub none-append : (cs ds : List Cause) → NoneGiven (cs ++ ds) → NoneGiven cs × NoneGiven ds
+none-append [] ds off = (tt, off)
+none-append (c ∷ cs) ds off = let rest = none-append cs ds (off .1) in ((off .0, rest .0), rest .1)
+
+-- the same causes refuse, or pass, whatever is answered
+pub data Verdict (cs : List Cause) : Type 1 where
+  stopped : (k : Refusal) → ((A : Type 0) (refused : Refusal → A) (a : A) → refuse refused cs a ≡ refused k) → Verdict cs
+  passes : NoneGiven cs → ((A : Type 0) (refused : Refusal → A) (a : A) → refuse refused cs a ≡ a) → Verdict cs
+
+pub verdict : (cs : List Cause) → Verdict cs
+verdict [] = passes tt (λ A refused a. refl)
+verdict (c ∷ cs) = by (c .given) refl (verdict cs)
+  where
+    by : (t : Bool) → c .given ≡ t → Verdict cs → Verdict (c ∷ cs)
+    by true e v = stopped (c .refusal) (λ A refused a. ap (λ (t : Bool). cond t (refused (c .refusal)) (refuse refused cs a)) e)
+    by false e (stopped k h) = stopped k (λ A refused a. ap (λ (t : Bool). cond t (refused (c .refusal)) (refuse refused cs a)) e ∙ h A refused a)
+    by false e (passes off h) = passes (e, off) (λ A refused a. ap (λ (t : Bool). cond t (refused (c .refusal)) (refuse refused cs a)) e ∙ h A refused a)
+
+-- what holds of every refusal, and of the answer where no cause is given, holds of what a call answers
+pub by-causes : {A : Type 0} (P : A → Type 0) (refused : Refusal → A) → ((k : Refusal) → P (refused k)) → (cs : List Cause) (a : A) → (NoneGiven cs → P a) → P (refuse refused cs a)
+by-causes {A} P refused stays cs a goes = by (verdict cs)
+  where
+    by : Verdict cs → P (refuse refused cs a)
+    by (stopped k h) = subst P (sym (h A refused a)) (stays k)
+    by (passes off h) = subst P (sym (h A refused a)) (goes off)
+
+pub unrefused : {A : Type 0} (refused : Refusal → A) (a : A) (cs : List Cause) → NoneGiven cs → a ≡ refuse refused cs a
+unrefused refused a [] off = refl
+unrefused refused a (c ∷ cs) off = unrefused refused a cs (off .1) ∙ ap (λ (t : Bool). cond t (refused (c .refusal)) (refuse refused cs a)) (sym (off .0))
+
+-- a test negated decides the negation
+pub negated : {t : Bool} {P : Type 0} → (t ≡ true) ↔ P → (not t ≡ true) ↔ (P → ⊥)
+negated {t = true} d = (λ e. absurd (never e), λ off. absurd (off (d .0 refl)))
+negated {t = false} d = (λ e p. never (d .1 p), λ off. refl)
+
+-- tests decide the grounds of both lists one after the other
+pub decides-append : {cs ds : List Cause} {gs es : List Ground} → Decides cs gs → Decides ds es → Decides (cs ++ ds) (gs ++ es)
+decides-append nil e = e
+decides-append (cons d ds) e = cons d (decides-append ds e)
 
 -- what is done with an answer can be done with each way out of it
 pub through : {A B : Type 0} (f : A → B) (refused : Refusal → A) (cs : List Cause) (a : A) → f (refuse refused cs a) ≡ refuse (λ k. f (refused k)) cs (f a)

@@ -5,12 +5,12 @@ use mathlib.Core.Logic.{_↔_}
 use mathlib.Core.List.{List}
 use Prim.Native.Nat.{ℕ}
 use native.Mathlib.Omega.{arith}
-use Rattle.laws.proofs.Bools.{never}
 use Rattle.refusals.specs.Causes.{Cause, refuse, frameCauses, Wrote, frameGrounds, Decides, nil, cons}
 use Rattle.refusals.specs.declared.Refusal.{Refusal}
 use Rattle.refusals.specs.declared.Refusal.the-variants.{Length, Unlisted}
 use Rattle.refusals.specs.declared.Written.{Written}
 use Rattle.refusals.specs.declared.Written.the-variants.{Done, Refused}
+use Rattle.refusals.proofs.Causes.{negated}
 
 module _ {A : Type 0} (refused : Refusal → A) (a : A) {s : Bool} where
   pub by-length : (t : Bool) → s ≡ false → refused Length ≡ refuse refused (frameCauses s t) a
@@ -56,9 +56,5 @@ pub wrote-once : {cs : List Cause} {new before : List ℕ} {r r′ : Written} {o
 wrote-once p q = (p .answer ∙ sym (q .answer), p .bytes ∙ sym (q .bytes))
 
 -- tests of lengths and fields decide the grounds
-negated : {t : Bool} {P : Type 0} → (t ≡ true) ↔ P → (not t ≡ true) ↔ (P → ⊥)
-negated {t = true} d = (λ e. absurd (never e), λ off. absurd (off (d .0 refl)))
-negated {t = false} d = (λ e p. never (d .1 p), λ off. refl)
-
 pub frame-decides : {s t : Bool} {P Q : Type 0} → (s ≡ true) ↔ P → (t ≡ true) ↔ Q → Decides (frameCauses s t) (frameGrounds P Q)
 frame-decides d e = cons (negated d) (cons (negated e) nil)

@@ -1,0 +1,6 @@
+-- What the proofs of several functions cite, and the crates above.
+pub mod Laws
+pub mod Bytes
+pub mod Demand
+pub mod Image
+pub mod Plain

@@ -1,0 +1,87 @@
+-- The history of a transfer whose frames are written: of a next-frame call it holds what the DATA reader reads back out of the bytes
+-- that the call wrote, and nothing of the transfer's own word. Assumes nothing.
+use Prim.Native.Nat.{ℕ, _+_, _-_, _≤_, _<_}
+use mathlib.Core.List.{List, [], _∷_, _++_, map}
+use mathlib.Core.Logic.{_⊎_}
+use mathlib.Core.Path.{_≡_}
+use lib.ListN.{length, getD, take, drop}
+use Rattle.ssp_frame.specs.Data.{frameEnd, readData}
+use Rattle.ssp_frame.specs.declared.data.DataRead.{DataRead}
+use Rattle.ssp_frame.specs.declared.data.DataRead.the-variants.{Frame as Data, Refused as NotData}
+use Rattle.transfer.specs.Calls as plainly
+use Rattle.transfer.specs.Log.{nextFrame}
+use Rattle.transfer.specs.History.{Frame, EntryOf, started, sent, acked, naked, timedOut, wasLost, ended, Entry, entries}
+use Rattle.transfer.specs.declared.Transfer.{Transfer}
+use Rattle.transfer.specs.declared.Answer.{Answer}
+use Rattle.send.specs.Send.{headOf, nextBytes}
+use Rattle.send.specs.Calls.{Call, plain, next, stepOf}
+
+-- what is known of a frame that went: where its data lies, how long it is, and the data
+pub record Shot : Type 0 where
+  pub at : ℕ
+  pub len : ℕ
+  pub bytes : List ℕ
+
+-- what the DATA reader finds in the bytes of a frame
+abbrev pub found : DataRead → List ℕ → Shot
+found (Data f) frame = record { at = f .head .offset; len = f .length; bytes = take (f .length) (drop 24 frame) }
+found (NotData k) frame = record { at = 0; len = 0; bytes = [] }
+
+-- a call with n bytes of data writes a frame to the front of its output
+abbrev pub written : ℕ → List ℕ → Shot
+written n out = found (readData (take (frameEnd n) out)) (take (frameEnd n) out)
+
+-- the frame that a plain frame call sends, of whose bytes nothing is known
+abbrev pub unwritten : Transfer → Shot
+unwritten s = record { at = nextFrame s .at; len = nextFrame s .len; bytes = [] }
+
+-- 01 READ.7: The history holds each frame with the offset in its header and its data length.
+abbrev pub shotsOf : ℕ → Call → Transfer → List (EntryOf Shot)
+shotsOf bound (plain c) s = entries c (unwritten s) (plainly.stepOf bound c s .answer)
+shotsOf bound (next destination source tag body out) s = entries plainly.Call.frame (written (length body) (nextBytes bound s (headOf s destination source tag) body out)) (stepOf bound (next destination source tag body out) s .answer)
+
+-- the history that some calls of s add to h, the first first
+abbrev pub history : ℕ → List Call → Transfer → List (EntryOf Shot) → List (EntryOf Shot)
+history bound [] s h = h
+history bound (c ∷ cs) s h = history bound cs (stepOf bound c s .state) (shotsOf bound c s ++ h)
+
+-- offset and length alone, as demand 3 reads them
+abbrev pub frameOf : Shot → Frame
+frameOf f = record { at = f .at; len = f .len }
+
+abbrev pub entryOf : EntryOf Shot → Entry
+entryOf started = started
+entryOf (sent f) = sent (frameOf f)
+entryOf acked = acked
+entryOf naked = naked
+entryOf timedOut = timedOut
+entryOf wasLost = wasLost
+entryOf ended = ended
+
+abbrev pub frames : List (EntryOf Shot) → List Entry
+frames h = map entryOf h
+
+-- a call that sends no frame without its bytes
+abbrev pub NoFrame : plainly.Call → Type 0
+NoFrame (plainly.Call.start b n m r) = Unit {0}
+NoFrame plainly.Call.frame = ⊥
+NoFrame plainly.Call.ack = Unit {0}
+NoFrame plainly.Call.nak = Unit {0}
+NoFrame plainly.Call.timeout = Unit {0}
+NoFrame plainly.Call.lost = Unit {0}
+NoFrame plainly.Call.nexus = Unit {0}
+NoFrame plainly.Call.cancel = Unit {0}
+
+-- each next-frame call was given the bytes of one image at its offset
+abbrev pub FromImage : List ℕ → Call → Transfer → Type 0
+FromImage image (plain c) s = NoFrame c
+FromImage image (next destination source tag body out) s = body ≡ take (length body) (drop (s .read) image)
+
+abbrev pub AllFromImage : List ℕ → ℕ → List Call → Transfer → Type 0
+AllFromImage image bound [] s = Unit {0}
+AllFromImage image bound (c ∷ cs) s = FromImage image c s × AllFromImage image bound cs (stepOf bound c s .state)
+
+-- byte x stands in one of the frames, as it stands in the image
+abbrev pub Shown : List ℕ → ℕ → List Shot → Type 0
+Shown image x [] = ⊥
+Shown image x (f ∷ fs) = ((f .at ≤ x) × ((x < f .at + f .len) × (getD (f .bytes) (x - f .at) 0 ≡ getD image x 0))) ⊎ Shown image x fs

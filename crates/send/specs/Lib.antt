@@ -1,0 +1,4 @@
+-- The next-frame call, and the history that is read from the bytes it writes.
+pub mod Send
+pub mod Calls
+pub mod History

@@ -1,0 +1,47 @@
+-- Document 01's examples, computed by the definitions. Assumes nothing.
+use Prim.Native.Nat.{ℕ, _-_}
+use mathlib.Core.Bool.{true}
+use mathlib.Core.List.{[], _∷_}
+use mathlib.Core.Path.{_≡_, refl}
+use lib.Dec.{eqb}
+use Rattle.transfer.specs.Rules.{before, placed, phaseRule, rules}
+use Rattle.transfer.specs.Steps.{bound64, answered, settled, drained, acked, naked, draining, refused, answerCauses, startStep, frameStep, ackStep, nakStep}
+use Rattle.transfer.specs.Calls.{start, frame, stepOf, run}
+use Rattle.transfer.specs.Examples.{line, listing, times, listed}
+use Rattle.transfer.specs.declared.Transfer.{Transfer}
+use Rattle.transfer.specs.declared.Stepped.{Stepped}
+use Rattle.transfer.specs.declared.Answer.{Answer}
+use Rattle.transfer.proofs.Tests.{by-test}
+use Rattle.refusals.proofs.Causes.{by-causes}
+
+-- 01 EXAMPLE.P10: P10 the listing.
+pub p10 :
+    listing bound64 1 listed before
+    ≡ line 1 Answer.Ok 0 0 0 0
+    ∷ line 2 Answer.Sent 4 0 1 0
+    ∷ line 3 Answer.Sent 8 0 2 0
+    ∷ line 4 Answer.Drain 8 0 1 0
+    ∷ line 5 Answer.Retry 0 0 0 1
+    ∷ line 6 Answer.Sent 4 0 1 1
+    ∷ line 7 Answer.Ok 4 4 0 1
+    ∷ line 8 Answer.Sent 8 4 1 1
+    ∷ line 9 Answer.Done 8 8 0 1
+    ∷ []
+unfolding stepOf startStep frameStep ackStep nakStep settled drained acked naked rules placed phaseRule
+p10 = refl
+
+-- 01 EXAMPLE.P11: P11 B 0, M 4, N 100, sixteen frames, no answer: balance 0, unanswered 16.
+pub p11 : let s = run bound64 (start 0 100 4 0 ∷ times 16 frame) before in (s .balance ≡ 0) × (s .unanswered ≡ 16)
+unfolding stepOf startStep frameStep rules placed phaseRule
+p11 = (refl, refl)
+
+-- 01 TRAP.1: adding an ACKed frame's bytes to the balance after an earlier NAK
+-- after a NAK an ACK leaves the balance point where it is
+pub trap-1 : (bound : ℕ) (s : Transfer) → draining (s .phase) ≡ true → ackStep bound s .state .balance ≡ s .balance
+unfolding ackStep acked drained
+trap-1 bound s seen =
+    by-causes Unmoved (refused s) (λ k. refl) (answerCauses bound s) (acked (answered s))
+    (λ off. rw seen (by-test Unmoved (eqb (s .unanswered - 1) 0) (λ t. refl) (λ t. refl)))
+  where
+    Unmoved : Stepped → Type 0
+    Unmoved st = st .state .balance ≡ s .balance

@@ -1,0 +1,16 @@
+-- What the proofs of several functions cite, and the crates above.
+pub mod Tests
+pub mod Causes
+pub mod Facts
+pub mod Calls
+pub mod Balance
+pub mod Demand
+pub mod Shape
+pub mod Sound
+mod Moves
+pub mod Exact
+pub mod Lent
+pub mod Stuck
+pub mod Endless
+pub mod Refusals
+pub mod Examples

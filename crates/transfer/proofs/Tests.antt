@@ -1,0 +1,58 @@
+-- A joined test says what its parts say, joined. Assumes nothing.
+use Prim.Native.Nat.{ℕ, _≤_, _<_}
+use mathlib.Core.Path.{_≡_, refl, sym}
+use mathlib.Core.Bool.{Bool, true, false, not, cond, _&&_, _||_}
+use mathlib.Core.Logic.{_⊎_, inl, inr, ⊎-elim, _↔_}
+use lib.Dec.{ltb, leb, eqb}
+use borrow.Author.Tests.{ltb-true, leb-true, eqb-true, lt-ltb, le-leb, eq-eqb, not-true}
+use Rattle.laws.proofs.Bools.{never, and-left, and-right, and-true}
+
+-- the test t is passed exactly if P
+abbrev pub Says : Bool → Type 0 → Type 0
+Says t P = (t ≡ true) ↔ P
+
+pub less : (x y : ℕ) → Says (ltb x y) (x < y)
+less x y = (ltb-true x y, lt-ltb x y)
+
+pub most : (x y : ℕ) → Says (leb x y) (x ≤ y)
+most x y = (leb-true x y, le-leb x y)
+
+pub equal : (x y : ℕ) → Says (eqb x y) (x ≡ y)
+equal x y = (eqb-true x y, eq-eqb x y)
+
+pub itself : (t : Bool) → Says t (t ≡ true)
+itself t = (λ e. e, λ e. e)
+
+pub denied : (t : Bool) → Says (not t) (t ≡ false)
+denied t = (not-true t, λ (e : t ≡ false) i. not (e i))
+
+or-cases : (a b : Bool) → a || b ≡ true → (a ≡ true) ⊎ (b ≡ true)
+or-cases true b e = inl refl
+or-cases false b e = inr e
+
+or-right : (a b : Bool) → b ≡ true → a || b ≡ true
+or-right true b p = refl
+or-right false b p = p
+
+module _ {a b : Bool} {P Q : Type 0} (p : Says a P) (q : Says b Q) where
+  pub both : Says (a && b) (P × Q)
+  both = (λ e. (p .0 (and-left a b e), q .0 (and-right a b e)), λ (h : P × Q). and-true (p .1 (h .0)) (q .1 (h .1)))
+
+  pub either : Says (a || b) (P ⊎ Q)
+  either = (
+    λ e. ⊎-elim (λ x. inl (p .0 x)) (λ y. inr (q .0 y)) (or-cases a b e),
+    ⊎-elim (λ (h : P). λ i. p .1 h i || b) (λ h. or-right a b (q .1 h)),
+  )
+
+-- a test that says something else by another law
+pub means : {t : Bool} {P Q : Type 0} → Says t P → P ↔ Q → Says t Q
+means p q = (λ e. q .0 (p .0 e), λ h. p .1 (q .1 h))
+
+-- what holds of both choices holds of the choice
+pub by-test {ℓ} : {A : Type ℓ} (P : A → Type 0) (t : Bool) {a b : A} → (t ≡ true → P a) → (t ≡ false → P b) → P (cond t a b)
+by-test P true f g = f refl
+by-test P false f g = g refl
+
+pub nor : (t u : Bool) → t || u ≡ false → (t ≡ false) × (u ≡ false)
+nor true u e = absurd (never (sym e))
+nor false u e = (refl, e)

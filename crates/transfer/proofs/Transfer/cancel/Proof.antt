@@ -1,0 +1,46 @@
+-- The ways out of `cancel` are its causes of refusal, one by one, and then `ended`. Assumes nothing.
+use borrow.Author.Needs.{needs}
+use Rattle.transfer.specs.Steps.{endStep}
+use Rattle.transfer.proofs.Calls.{off, on}
+use Rattle.transfer.proofs.Transfer.cancel.Statement.{statement}
+use Rattle.transfer.proofs.Transfer.cancel.Tie as tie
+
+taken-requires : tie.Need-taken-requires
+taken-requires c κs = search needs
+
+refused-requires : tie.Need-refused-requires
+refused-requires c κs = search needs
+
+returns : tie.Need-returns
+unfolding endStep
+returns c = rw (off (c .before .before .taken .ensures) (c .before .if1 .taken)) (c .refused .ensures)
+
+unfinished-requires : tie.Need-unfinished-requires
+unfinished-requires c κs = search needs
+
+refused-requires-2 : tie.Need-refused-requires-2
+refused-requires-2 c κs = search needs
+
+returns-2 : tie.Need-returns-2
+unfolding endStep
+returns-2 c = rw (on (c .before .before .before .before .taken .ensures) (c .before .before .before .if1 .left), off (c .before .before .unfinished .ensures) (c .before .if2 .taken)) (c .refused2 .ensures)
+
+told-requires : tie.Need-told-requires
+told-requires c κs = search needs
+
+returns-3 : tie.Need-returns-3
+unfolding endStep
+returns-3 c = rw (on (c .before .before .before .before .taken .ensures) (c .before .before .before .if1 .left), on (c .before .before .unfinished .ensures) (c .before .if2 .left)) (c .told .ensures)
+
+pub cancel-spec : {M : Type 1} → statement M
+cancel-spec =
+    tie.close
+    (tie.spec
+    taken-requires
+    refused-requires
+    returns
+    unfinished-requires
+    refused-requires-2
+    returns-2
+    told-requires
+    returns-3)

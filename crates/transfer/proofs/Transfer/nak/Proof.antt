@@ -1,0 +1,55 @@
+-- `nak` is refused by its check, or goes on to `naked`. Assumes nothing.
+use borrow.Author.Needs.{needs}
+use Rattle.transfer.specs.Steps.{bound64, refused, answered, naked, answerCauses, nakStep}
+use Rattle.transfer.proofs.Causes.{none-given, goes-on, stops}
+use Rattle.transfer.proofs.Calls.{Answerable, answerable}
+use Rattle.transfer.proofs.Transfer.nak.Statement.{statement}
+use Rattle.transfer.proofs.Transfer.nak.Tie as tie
+
+answer-checked-requires : tie.Need-answer-checked-requires
+answer-checked-requires c κs = search needs
+
+enum-known-checked : tie.Need-enum-known-checked
+enum-known-checked c = search needs
+
+refused-requires : tie.Need-refused-requires
+refused-requires c κs = search needs
+
+returns : tie.Need-returns
+unfolding nakStep
+returns c =
+    let s = c .before .before .before .before .before .args .self in
+    stops (refused s) (naked (answered s)) (answerCauses bound64 s) (c .before .before .before .before .answer-checked .ensures) (c .before .before .checked .given .1) (c .refused .ensures)
+
+enum-told : tie.Need-enum-told
+enum-told c = search needs
+
+passed : (c : tie.After-enum-told) → Answerable bound64 (c .before .before .before .args .self)
+passed c =
+    let s = c .before .before .before .args .self in
+    answerable bound64 s (none-given (answerCauses bound64 s) (c .before .before .answer-checked .ensures) (c .enum-told .given .1))
+
+sub-self : tie.Need-sub-self
+sub-self c = passed (c .before) .some
+
+naked-requires : tie.Need-naked-requires
+naked-requires c κs = search needs
+
+returns-2 : tie.Need-returns-2
+unfolding nakStep
+returns-2 c =
+    let s = c .before .before .before .before .before .args .self in
+    goes-on (refused s) (naked (answered s)) (answerCauses bound64 s) (c .before .before .before .before .answer-checked .ensures) (c .before .before .enum-told .given .1) (c .naked .ensures)
+
+pub nak-spec : {M : Type 1} → statement M
+nak-spec =
+    tie.close
+    (tie.spec
+    answer-checked-requires
+    enum-known-checked
+    refused-requires
+    returns
+    enum-told
+    sub-self
+    naked-requires
+    returns-2)

@@ -1,0 +1,57 @@
+-- The ways out of `start` are its causes of refusal, one by one, and then the state that it sets. Assumes nothing.
+use mathlib.Core.Path.{_≡_, sym, _∙_}
+use mathlib.Core.Bool.{not, _||_}
+use borrow.Author.Needs.{needs}
+use Rattle.transfer.specs.Steps.{startStep, bound64}
+use Rattle.transfer.specs.Rules.{inRange, rules}
+use Rattle.transfer.proofs.Transfer.start.Statement.{statement}
+use Rattle.transfer.proofs.Transfer.start.Tie as tie
+
+-- what the first test tests
+tested : (c : tie.After-taken)
+    → let a = c .before .before .args in not (inRange (a .b) (a .n) (a .m) (a .r)) || not (rules bound64 (a .self)) ≡ not (c .before .in-range .result) || not (c .taken .result)
+tested c = sym (λ i. not (c .before .in-range .ensures i) || not (c .taken .ensures i))
+
+in-range-requires : tie.Need-in-range-requires
+in-range-requires c κs = search needs
+
+taken-requires : tie.Need-taken-requires
+taken-requires c κs = search needs
+
+refused-requires : tie.Need-refused-requires
+refused-requires c κs = search needs
+
+returns : tie.Need-returns
+unfolding startStep
+returns c = rw (tested (c .before .before) ∙ c .before .if1 .taken) (c .refused .ensures)
+
+unfinished-requires : tie.Need-unfinished-requires
+unfinished-requires c κs = search needs
+
+refused-requires-2 : tie.Need-refused-requires-2
+refused-requires-2 c κs = search needs
+
+returns-2 : tie.Need-returns-2
+unfolding startStep
+returns-2 c = rw (tested (c .before .before .before .before) ∙ c .before .before .before .if1 .left, sym (c .before .before .unfinished .ensures) ∙ c .before .if2 .taken) (c .refused2 .ensures)
+
+told-requires : tie.Need-told-requires
+told-requires c κs = search needs
+
+returns-3 : tie.Need-returns-3
+unfolding startStep
+returns-3 c = rw (tested (c .before .before .before .before) ∙ c .before .before .before .if1 .left, sym (c .before .before .unfinished .ensures) ∙ c .before .if2 .left) (c .told .ensures)
+
+pub start-spec : {M : Type 1} → statement M
+start-spec =
+    tie.close
+    (tie.spec
+    in-range-requires
+    taken-requires
+    refused-requires
+    returns
+    unfinished-requires
+    refused-requires-2
+    returns-2
+    told-requires
+    returns-3)

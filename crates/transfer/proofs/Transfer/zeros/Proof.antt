@@ -1,0 +1,13 @@
+-- `zeros` joins its tests as the definition does; the last is of the phase. Assumes nothing.
+use borrow.Author.Needs.{needs}
+use Rattle.transfer.proofs.Transfer.zeros.Statement.{statement}
+use Rattle.transfer.proofs.Transfer.zeros.Tie as tie
+
+is-new-requires : tie.Need-is-new-requires
+is-new-requires c κs = search needs
+
+returns : tie.Need-returns
+returns c = rw (c .before .before .before .before .before .before .before .before .before .is-new .ensures)
+
+pub zeros-spec : {M : Type 1} → statement M
+zeros-spec = tie.close (tie.spec is-new-requires returns)

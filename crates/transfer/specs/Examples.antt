@@ -1,0 +1,34 @@
+-- Document 01, 'Proved examples and traps': the lines of a listing. Assumes nothing.
+use Prim.Native.Nat.{ℕ, zero, suc, _+_}
+use mathlib.Core.List.{List, [], _∷_}
+use Rattle.transfer.specs.Calls.{Call, start, frame, ack, nak, stepOf}
+use Rattle.transfer.specs.declared.Transfer.{Transfer}
+use Rattle.transfer.specs.declared.Answer.{Answer}
+
+-- line number, word, read offset, balance, unanswered, resends used
+pub record Line : Type 0 where
+  pub number : ℕ
+  pub word : Answer
+  pub read : ℕ
+  pub balance : ℕ
+  pub unanswered : ℕ
+  pub used : ℕ
+
+abbrev pub line : ℕ → Answer → ℕ → ℕ → ℕ → ℕ → Line
+line number word read balance unanswered used =
+    record { number = number; word = word; read = read; balance = balance; unanswered = unanswered; used = used }
+
+-- what some calls of s give, from line i on
+abbrev pub listing : ℕ → ℕ → List Call → Transfer → List Line
+listing bound i [] s = []
+listing bound i (c ∷ cs) s =
+    line i (stepOf bound c s .answer) (stepOf bound c s .state .read) (stepOf bound c s .state .balance) (stepOf bound c s .state .unanswered) (stepOf bound c s .state .used)
+    ∷ listing bound (i + 1) cs (stepOf bound c s .state)
+
+abbrev pub times : ℕ → Call → List Call
+times zero c = []
+times (suc n) c = c ∷ times n c
+
+-- START 0 8 4 1, then FRAME FRAME NAK ACK FRAME ACK FRAME ACK
+abbrev pub listed : List Call
+listed = start 0 8 4 1 ∷ frame ∷ frame ∷ nak ∷ ack ∷ frame ∷ ack ∷ frame ∷ ack ∷ []

@@ -1,0 +1,9 @@
+-- Document 01, 'Read transfer'.
+pub mod Rules
+pub mod Steps
+pub mod Calls
+pub mod History
+pub mod Log
+pub mod Demand
+pub mod Grounds
+pub mod Examples
