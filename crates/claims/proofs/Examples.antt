@@ -1,6 +1,6 @@
 -- Document 01's P lines, one table under one claim: each is computed from the definitions, or is a case of their laws. Assumes nothing.
 use mathlib.Core.Bool.{true, false}
-use mathlib.Core.List.{[], _∷_}
+use mathlib.Core.List.{_∷_}
 use mathlib.Core.Path.{_≡_, refl}
 use Prim.Native.Nat.{ℕ, _<_}
 use Rattle.open_frame.specs.Priority.{higherThan}
@@ -10,8 +10,7 @@ use Rattle.open_frame.specs.declared.OpenFrame.{OpenFrame}
 use Rattle.transfer.specs.Rules.{before}
 use Rattle.transfer.specs.Steps.{bound64}
 use Rattle.transfer.specs.Calls.{start, frame as framed, run}
-use Rattle.transfer.specs.Examples.{line, listing, times, listed}
-use Rattle.transfer.specs.declared.Answer.{Answer}
+use Rattle.transfer.specs.Examples.{listing, times, listed, output}
 use Rattle.transfer.proofs.Examples.{p10 as listing-is, p11 as sixteen}
 use Rattle.claims.proofs.Priority.{not-higher}
 
@@ -39,18 +38,7 @@ pub record Examples : Type 0 where
   pub p8 : (h k : Head) (p q awt source : ℕ) → higherThan (frame h p awt source) (frame k q awt source) ≡ false
   -- 01 READ.5 01 READ.8
   -- 01 EXAMPLE.5: P10 the listing.
-  pub p10 :
-      listing bound64 1 listed before
-      ≡ line 1 Answer.Ok 0 0 0 0
-      ∷ line 2 Answer.Sent 4 0 1 0
-      ∷ line 3 Answer.Sent 8 0 2 0
-      ∷ line 4 Answer.Drain 8 0 1 0
-      ∷ line 5 Answer.Retry 0 0 0 1
-      ∷ line 6 Answer.Sent 4 0 1 1
-      ∷ line 7 Answer.Ok 4 4 0 1
-      ∷ line 8 Answer.Sent 8 4 1 1
-      ∷ line 9 Answer.Done 8 8 0 1
-      ∷ []
+  pub p10 : listing bound64 1 listed before ≡ output
   -- 01 EXAMPLE.6: P11 B 0, M 4, N 100, sixteen frames, no answer: balance 0, unanswered 16.
   pub p11 : let s = run bound64 (start 0 100 4 0 ∷ times 16 framed) before in (s .balance ≡ 0) × (s .unanswered ≡ 16)
 

@@ -1,32 +1,20 @@
 -- Document 01's examples, computed by the definitions. Assumes nothing.
 use Prim.Native.Nat.{ℕ, _-_}
 use mathlib.Core.Bool.{true}
-use mathlib.Core.List.{[], _∷_}
+use mathlib.Core.List.{_∷_}
 use mathlib.Core.Path.{_≡_, refl}
 use lib.Dec.{eqb}
 use Rattle.transfer.specs.Rules.{before, placed, phaseRule, rules}
 use Rattle.transfer.specs.Steps.{bound64, answered, settled, drained, acked, naked, draining, refused, answerCauses, startStep, frameStep, ackStep, nakStep}
 use Rattle.transfer.specs.Calls.{start, frame, stepOf, run}
-use Rattle.transfer.specs.Examples.{line, listing, times, listed}
+use Rattle.transfer.specs.Examples.{listing, times, listed, output}
 use Rattle.transfer.specs.declared.Transfer.{Transfer}
 use Rattle.transfer.specs.declared.Stepped.{Stepped}
-use Rattle.transfer.specs.declared.Answer.{Answer}
 use Rattle.transfer.proofs.Tests.{by-test}
 use Rattle.refusals.proofs.Causes.{by-causes}
 
 -- 01 EXAMPLE.P10: P10 the listing.
-pub p10 :
-    listing bound64 1 listed before
-    ≡ line 1 Answer.Ok 0 0 0 0
-    ∷ line 2 Answer.Sent 4 0 1 0
-    ∷ line 3 Answer.Sent 8 0 2 0
-    ∷ line 4 Answer.Drain 8 0 1 0
-    ∷ line 5 Answer.Retry 0 0 0 1
-    ∷ line 6 Answer.Sent 4 0 1 1
-    ∷ line 7 Answer.Ok 4 4 0 1
-    ∷ line 8 Answer.Sent 8 4 1 1
-    ∷ line 9 Answer.Done 8 8 0 1
-    ∷ []
+pub p10 : listing bound64 1 listed before ≡ output
 unfolding stepOf startStep frameStep ackStep nakStep settled drained acked naked rules placed phaseRule
 p10 = refl
 

@@ -32,3 +32,17 @@ times (suc n) c = c ∷ times n c
 -- START 0 8 4 1, then FRAME FRAME NAK ACK FRAME ACK FRAME ACK
 abbrev pub listed : List Call
 listed = start 0 8 4 1 ∷ frame ∷ frame ∷ nak ∷ ack ∷ frame ∷ ack ∷ frame ∷ ack ∷ []
+
+-- and the whole output, as document 01 lists it
+abbrev pub output : List Line
+output =
+    line 1 Answer.Ok 0 0 0 0
+    ∷ line 2 Answer.Sent 4 0 1 0
+    ∷ line 3 Answer.Sent 8 0 2 0
+    ∷ line 4 Answer.Drain 8 0 1 0
+    ∷ line 5 Answer.Retry 0 0 0 1
+    ∷ line 6 Answer.Sent 4 0 1 1
+    ∷ line 7 Answer.Ok 4 4 0 1
+    ∷ line 8 Answer.Sent 8 4 1 1
+    ∷ line 9 Answer.Done 8 8 0 1
+    ∷ []
