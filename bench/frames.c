@@ -4,25 +4,19 @@
  * Usage: frames [--strict]        --strict: exit 1 if a ratio is above the goal
  *
  * Both sides run in one process, by turns, over the same inputs, through pointers to functions of other translation
- * units. Of many rounds the fastest counts, since whatever disturbs a round makes it slower. Both must have given
- * the same results, or a row says nothing.
+ * units. Both must have given the same results, or a row says nothing.
  */
-#define _POSIX_C_SOURCE 200809L
-
+#include "compare.h"
 #include "plain.h"
 #include "sonerwal.h"
 
 #include <stdio.h>
 #include <stdlib.h>
 #include <string.h>
-#include <time.h>
-
-#define GOAL 1.10
 
 enum {
-	INPUTS = 8,    /* different calls, gone through in a circle; few enough for the nearest cache */
-	CALLS = 4000, /* calls between two looks at the clock */
-	ROUNDS = 1000
+	INPUTS = 8,   /* different calls, gone through in a circle; few enough for the nearest cache */
+	CALLS = 4000 /* calls between two looks at the clock */
 };
 
 struct coder {
@@ -31,8 +25,6 @@ struct coder {
 	__typeof__(sas_data_read) *data_read;
 	__typeof__(sas_data_write) *data_write;
 };
-
-enum side { PLAIN, OURS, SIDES };
 
 static const struct coder coders[SIDES] = {
 	[PLAIN] = {plain_open_read, plain_open_write, plain_data_read, plain_data_write},
@@ -55,7 +47,6 @@ struct result {
 
 static struct input inputs[INPUTS];
 static struct result results[SIDES][INPUTS];
-static volatile uint64_t sink;
 
 /* ---- Inputs */
 
@@ -148,6 +139,10 @@ static uint8_t data_write(const struct coder *coder, const struct input *in, str
 			size_t at = i % INPUTS;                                       \
 			answers += step(&coders[side], &inputs[at], &results[side][at]); \
 		}                                                                     \
+		if (answers != 0) {                                                   \
+			fprintf(stderr, "bench: " #step ": a valid call was refused\n"); \
+			exit(2);                                                      \
+		}                                                                     \
 		return answers;                                                       \
 	}
 
@@ -156,89 +151,20 @@ LOOP_OVER(open_write)
 LOOP_OVER(data_read)
 LOOP_OVER(data_write)
 
-struct row {
-	const char *name;
-	uint64_t (*many)(enum side side);
-	size_t body_len;
-	double best[SIDES];
-};
+static int same(void)
+{
+	return memcmp(results[PLAIN], results[OURS], sizeof results[PLAIN]) == 0;
+}
 
 static struct row rows[] = {
-	{"OPEN read", many_open_read, 4, {0}},         {"OPEN write", many_open_write, 4, {0}},
-	{"DATA read, 4", many_data_read, 4, {0}},      {"DATA read, 512", many_data_read, 512, {0}},
-	{"DATA read, 1024", many_data_read, 1024, {0}}, {"DATA write, 4", many_data_write, 4, {0}},
-	{"DATA write, 512", many_data_write, 512, {0}}, {"DATA write, 1024", many_data_write, 1024, {0}},
+	{"OPEN read", many_open_read, CALLS, 4, {0}},          {"OPEN write", many_open_write, CALLS, 4, {0}},
+	{"DATA read, 4", many_data_read, CALLS, 4, {0}},       {"DATA read, 512", many_data_read, CALLS, 512, {0}},
+	{"DATA read, 1024", many_data_read, CALLS, 1024, {0}}, {"DATA write, 4", many_data_write, CALLS, 4, {0}},
+	{"DATA write, 512", many_data_write, CALLS, 512, {0}}, {"DATA write, 1024", many_data_write, CALLS, 1024, {0}},
 };
-
-enum { ROWS = sizeof rows / sizeof *rows };
-
-static double nanoseconds(void)
-{
-	struct timespec now;
-	clock_gettime(CLOCK_MONOTONIC, &now);
-	return (double)now.tv_sec * 1e9 + (double)now.tv_nsec;
-}
-
-static void measure_side(struct row *row, enum side side)
-{
-	double start = nanoseconds();
-	uint64_t refused = row->many(side);
-	double each = (nanoseconds() - start) / CALLS;
-	sink += refused;
-	if (refused != 0) {
-		fprintf(stderr, "bench: %s: a valid call was refused\n", row->name);
-		exit(2);
-	}
-	if (row->best[side] == 0 || each < row->best[side]) {
-		row->best[side] = each;
-	}
-}
-
-/* Who goes first changes with each round. */
-static void measure(struct row *row)
-{
-	prepare(row->body_len);
-	for (int round = 0; round < ROUNDS; round++) {
-		enum side first = round % 2 ? OURS : PLAIN;
-		measure_side(row, first);
-		measure_side(row, first == PLAIN ? OURS : PLAIN);
-	}
-	if (memcmp(results[PLAIN], results[OURS], sizeof results[PLAIN]) != 0) {
-		fprintf(stderr, "bench: %s: the two sides give different results\n", row->name);
-		exit(2);
-	}
-}
-
-static double ratio(const struct row *row)
-{
-	return row->best[OURS] / row->best[PLAIN];
-}
-
-/* The table; gives how many rows miss the goal. */
-static int show(void)
-{
-	int missed = 0;
-	printf("%-18s %10s %10s %8s  at most %.2f\n", "call", "plain, ns", "ours, ns", "ratio", GOAL);
-	for (size_t i = 0; i < ROWS; i++) {
-		int misses = ratio(&rows[i]) > GOAL;
-		missed += misses;
-		printf("%-18s %10.2f %10.2f %8.2f  %s\n", rows[i].name, rows[i].best[PLAIN], rows[i].best[OURS],
-		       ratio(&rows[i]), misses ? "no" : "yes");
-	}
-	return missed;
-}
 
 int main(int argc, char **argv)
 {
-	int strict = argc > 1 && strcmp(argv[1], "--strict") == 0;
-	for (size_t i = 0; i < ROWS; i++) {
-		measure(&rows[i]);
-	}
-	int missed = show();
-	if (missed == 0) {
-		printf("goal %.2f: every ratio is at most that\n", GOAL);
-	} else {
-		printf("goal %.2f: missed by %d of %d ratios\n", GOAL, missed, (int)ROWS);
-	}
-	return strict && missed ? EXIT_FAILURE : EXIT_SUCCESS;
+	struct bench bench = {"call", rows, sizeof rows / sizeof *rows, 1.10, prepare, same};
+	return compare(&bench, argc, argv);
 }

@@ -1,47 +1,5 @@
 #include "plain.h"
-
-#include <string.h>
-
-/* Loads and stores of big-endian words at any address, on a little-endian machine. */
-
-static uint16_t load16(const uint8_t *at)
-{
-	uint16_t word;
-	memcpy(&word, at, sizeof word);
-	return __builtin_bswap16(word);
-}
-
-static uint32_t load32(const uint8_t *at)
-{
-	uint32_t word;
-	memcpy(&word, at, sizeof word);
-	return __builtin_bswap32(word);
-}
-
-static uint64_t load64(const uint8_t *at)
-{
-	uint64_t word;
-	memcpy(&word, at, sizeof word);
-	return __builtin_bswap64(word);
-}
-
-static void store16(uint8_t *at, uint16_t word)
-{
-	word = __builtin_bswap16(word);
-	memcpy(at, &word, sizeof word);
-}
-
-static void store32(uint8_t *at, uint32_t word)
-{
-	word = __builtin_bswap32(word);
-	memcpy(at, &word, sizeof word);
-}
-
-static void store64(uint8_t *at, uint64_t word)
-{
-	word = __builtin_bswap64(word);
-	memcpy(at, &word, sizeof word);
-}
+#include "plain_data.h"
 
 uint8_t plain_open_read(const uint8_t *frame, size_t frame_len, uint8_t *initiator, uint8_t *protocol,
                         uint8_t *features, uint8_t *rate, uint16_t *tag, uint64_t *destination, uint64_t *source,
@@ -113,20 +71,12 @@ uint8_t plain_data_read(const uint8_t *frame, size_t frame_len, uint32_t *hashed
 uint8_t plain_data_write(uint32_t hashed_destination, uint32_t hashed_source, uint8_t changing, uint16_t tag,
                          uint32_t offset, const uint8_t *body, size_t body_len, uint8_t *frame, size_t frame_len)
 {
-	if (body_len < 1 || body_len > 1024 || frame_len < 24 + (body_len + 3) / 4 * 4) {
+	if (body_len < 1 || body_len > 1024 || frame_len < data_frame_size(body_len)) {
 		return 1;
 	}
 	if (hashed_destination > 0xFFFFFF || hashed_source > 0xFFFFFF || changing > 1) {
 		return 2;
 	}
-	uint32_t fill = (uint32_t)-body_len & 3;
-	store32(frame, UINT32_C(1) << 24 | hashed_destination);
-	store32(frame + 4, hashed_source);
-	store32(frame + 8, (uint32_t)changing << 8 | fill);
-	store32(frame + 12, 0);
-	store32(frame + 16, (uint32_t)tag << 16 | 0xFFFF);
-	store32(frame + 20, offset);
-	memcpy(frame + 24, body, body_len);
-	memset(frame + 24 + body_len, 0, fill);
+	store_data(hashed_destination, hashed_source, changing, tag, offset, body, body_len, frame);
 	return 0;
 }

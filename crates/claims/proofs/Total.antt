@@ -60,6 +60,14 @@ use Rattle.sonerwal.proofs.sas_data_read.Kinds as sas-data-read-of
 use Rattle.sonerwal.proofs.sas_data_read.Reads as sas-data-read
 use Rattle.sonerwal.proofs.sas_data_write.Kinds as sas-data-write-of
 use Rattle.sonerwal.proofs.sas_data_write.Reads as sas-data-write
+use Rattle.bench_steps.proofs.bench_frames.Kinds as bench-frames-of
+use Rattle.bench_steps.proofs.bench_frames.Reads as bench-frames
+use Rattle.bench_steps.proofs.bench_acks.Kinds as bench-acks-of
+use Rattle.bench_steps.proofs.bench_acks.Reads as bench-acks
+use Rattle.bench_steps.proofs.bench_turns.Kinds as bench-turns-of
+use Rattle.bench_steps.proofs.bench_turns.Reads as bench-turns
+use Rattle.bench_steps.proofs.bench_next.Kinds as bench-next-of
+use Rattle.bench_steps.proofs.bench_next.Reads as bench-next
 
 -- a function of n lifetimes and parameters ps that asks pre of them takes anything
 abbrev Anything : (n : ℕ) (ps : List (kinds.PK n)) → kinds.In n ps → Type 0
@@ -94,6 +102,10 @@ pub record Total : Type 0 where
   pub sas-open-write : Anything 1 sas-open-write-of.ps sas-open-write.Pre
   pub sas-data-read : Anything 7 sas-data-read-of.ps sas-data-read.Pre
   pub sas-data-write : Anything 2 sas-data-write-of.ps sas-data-write.Pre
+  pub bench-frames : Anything 0 bench-frames-of.ps bench-frames.Pre
+  pub bench-acks : Anything 0 bench-acks-of.ps bench-acks.Pre
+  pub bench-turns : Anything 0 bench-turns-of.ps bench-turns.Pre
+  pub bench-next : Anything 2 bench-next-of.ps bench-next.Pre
 
 pub total : Total
 total = record {
@@ -125,4 +137,8 @@ total = record {
   sas-open-write = λ κs a. tt;
   sas-data-read = λ κs a. tt;
   sas-data-write = λ κs a. tt;
+  bench-frames = λ κs a. tt;
+  bench-acks = λ κs a. tt;
+  bench-turns = λ κs a. tt;
+  bench-next = λ κs a. tt;
 }

@@ -67,6 +67,14 @@ use Rattle.sonerwal.proofs.sas_data_read.Kinds as sas-data-read-of
 use Rattle.sonerwal.proofs.sas_data_read.Reads as sas-data-read
 use Rattle.sonerwal.proofs.sas_data_write.Kinds as sas-data-write-of
 use Rattle.sonerwal.proofs.sas_data_write.Reads as sas-data-write
+use Rattle.bench_steps.proofs.bench_frames.Kinds as bench-frames-of
+use Rattle.bench_steps.proofs.bench_frames.Reads as bench-frames
+use Rattle.bench_steps.proofs.bench_acks.Kinds as bench-acks-of
+use Rattle.bench_steps.proofs.bench_acks.Reads as bench-acks
+use Rattle.bench_steps.proofs.bench_turns.Kinds as bench-turns-of
+use Rattle.bench_steps.proofs.bench_turns.Reads as bench-turns
+use Rattle.bench_steps.proofs.bench_next.Kinds as bench-next-of
+use Rattle.bench_steps.proofs.bench_next.Reads as bench-next
 
 -- a function of n lifetimes, parameters ps and result r has one outcome: its answer, and what `left` reads of the lent at exit
 abbrev One : (n : ℕ) (ps : List (kinds.PK n)) (r : kinds.RK n) {L : Type 0} → ((κs : Lifetimes.Lfts n) → Clauses.AtExit (kinds.endedOf n ps r) κs → L) → kinds.Out n ps r → Type 0
@@ -100,6 +108,9 @@ sas-data-read-left κs s = data6 (now (s .1 .0)) (now (s .1 .1 .0)) (now (s .1 .
 abbrev sas-data-write-left : (κs : Lifetimes.Lfts 2) → Clauses.AtExit (kinds.endedOf 2 sas-data-write-of.ps sas-data-write-of.r) κs → List ℕ
 sas-data-write-left κs s = now (s .1 .1 .1 .1 .1 .1 .0)
 
+abbrev bench-next-left : (κs : Lifetimes.Lfts 2) → Clauses.AtExit (kinds.endedOf 2 bench-next-of.ps bench-next-of.r) κs → List ℕ
+bench-next-left κs s = now (s .1 .1 .1 .1 .1 .1 .1 .1 .1 .0)
+
 -- 01 PROMISE.1: Each public function's promise determines its answer, new state and each lent byte, on refusals too.
 -- 01 PROMISE.2: Prove that it admits no second answer; list exceptions in docs/ and why.
 -- 01 READ.4
@@ -132,6 +143,10 @@ pub record Unique : Type 0 where
   pub sas-open-write : One 1 sas-open-write-of.ps sas-open-write-of.r sas-open-write-left sas-open-write.Post
   pub sas-data-read : One 7 sas-data-read-of.ps sas-data-read-of.r sas-data-read-left sas-data-read.Post
   pub sas-data-write : One 2 sas-data-write-of.ps sas-data-write-of.r sas-data-write-left sas-data-write.Post
+  pub bench-frames : One 0 bench-frames-of.ps bench-frames-of.r (none 0 bench-frames-of.ps bench-frames-of.r) bench-frames.Post
+  pub bench-acks : One 0 bench-acks-of.ps bench-acks-of.r (none 0 bench-acks-of.ps bench-acks-of.r) bench-acks.Post
+  pub bench-turns : One 0 bench-turns-of.ps bench-turns-of.r (none 0 bench-turns-of.ps bench-turns-of.r) bench-turns.Post
+  pub bench-next : One 2 bench-next-of.ps bench-next-of.r bench-next-left bench-next.Post
 
 pub unique : Unique
 unique = record {
@@ -163,4 +178,8 @@ unique = record {
   sas-open-write = λ κs a x y s t p q. (p .answer ∙ sym (q .answer), p .lent ∙ sym (q .lent));
   sas-data-read = λ κs a x y s t p q. (p .answer ∙ sym (q .answer), p .lent ∙ sym (q .lent));
   sas-data-write = λ κs a x y s t p q. (p .answer ∙ sym (q .answer), p .lent ∙ sym (q .lent));
+  bench-frames = λ κs a x y s t p q. (p ∙ sym q, refl);
+  bench-acks = λ κs a x y s t p q. (p ∙ sym q, refl);
+  bench-turns = λ κs a x y s t p q. (p ∙ sym q, refl);
+  bench-next = λ κs a x y s t p q. (p .answer ∙ sym (q .answer), p .bytes ∙ sym (q .bytes));
 }

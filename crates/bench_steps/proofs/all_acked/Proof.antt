@@ -1,0 +1,51 @@
+-- The loop's invariant: the state is that after as many ACKs as turns. Assumes nothing.
+use Prim.Native.Nat.{_≤_, _-_}
+use mathlib.Core.Path.{_≡_, refl, ap, _∙_}
+use native.Mathlib.Numerals.{add-one}
+use native.Mathlib.Omega.{arith}
+use borrow.Author.Needs.{needs}
+use Rattle.bench_steps.specs.Rounds.{times, ackOf}
+use Rattle.bench_steps.proofs.all_acked.Statement.{statement}
+use Rattle.bench_steps.proofs.all_acked.Tie as tie
+
+abbrev Inv-loop : tie.InvT-loop
+Inv-loop s₀ rounds i₀ s i = (i ≤ rounds) × (s ≡ times ackOf i s₀)
+
+abbrev μ-loop : tie.MeasureT-loop
+μ-loop s₀ rounds i₀ s i = rounds - i
+
+loop-holds : tie.Need-loop-holds Inv-loop μ-loop
+loop-holds c = (omega arith, refl)
+
+acked-requires : tie.Need-acked-requires Inv-loop μ-loop
+acked-requires c κs = search needs
+
+add-i : tie.Need-add-i Inv-loop μ-loop
+add-i c = search needs
+
+loop-less : tie.Need-loop-less Inv-loop μ-loop
+loop-less c = omega arith
+
+loop-again : tie.Need-loop-again Inv-loop μ-loop
+loop-again c =
+    let l = c .before .before .loop in
+    (omega arith, rw add-one (c .acked .ensures ∙ ap ackOf (l .inv .1)))
+
+returns : tie.Need-returns Inv-loop μ-loop
+returns c =
+    let l = c .before .loop in
+    let done : l .i ≡ c .before .before .args .rounds = omega (arith, l .inv .0, c .loop-test .left) in
+    rw done at (l .inv .1)
+
+pub all-acked-spec : {M : Type 1} → statement M
+all-acked-spec =
+    tie.close
+    (tie.spec
+    Inv-loop
+    μ-loop
+    loop-holds
+    acked-requires
+    add-i
+    loop-less
+    loop-again
+    returns)

@@ -1,0 +1,2 @@
+-- What the bench's calls do.
+pub mod Rounds
