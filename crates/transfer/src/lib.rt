@@ -12,20 +12,29 @@ use refusals::Refusal;
 pub enum Phase {
     // Before START.
     New,
+    // Frames go, and answers come.
     Run,
     // A NAK was seen, and answers are still due.
     Drain,
+    // Every requested byte was ACKed.
     Done,
+    // A NAK, TIMEOUT or LOST came with every resend used.
     Fail,
+    // NEXUS or CANCEL came.
     End,
 }
 
 // What a call answers, in document 01's words.
 pub enum Answer {
+    // START was taken, or an ACK that leaves the transfer in run.
     Ok,
+    // A frame goes.
     Sent,
+    // An ACK or NAK, with answers still due after a NAK.
     Drain,
+    // A resend begins.
     Retry,
+    // Delivered.
     Done,
     Fail,
     End,
