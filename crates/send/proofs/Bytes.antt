@@ -2,7 +2,7 @@
 -- that frame, and reading undoes writing. Assumes nothing.
 use Prim.Native.Nat.{ℕ, _<_}
 use mathlib.Core.Bool.{Bool, true, false, not, cond}
-use mathlib.Core.List.{List, [], _∷_, _++_}
+use mathlib.Core.List.{List, [], _∷_, _++_, map-append}
 use mathlib.Core.Path.{_≡_, refl, sym, ap, _∙_}
 use native.Mathlib.Omega.{arith}
 use lib.Dec.{eqb, leb}
@@ -23,7 +23,7 @@ use Rattle.transfer.specs.Rules.{endOf, rules}
 use Rattle.transfer.specs.Steps.{frameLength, framed, refused, frameCauses, frameStep}
 use Rattle.transfer.specs.Calls as plainly
 use Rattle.transfer.specs.Log.{nextFrame, entriesOf}
-use Rattle.transfer.specs.History.{Frame, entryOf as entryFor, entries, isRefused}
+use Rattle.transfer.specs.History.{Frame, Entry, EntryOf, entryOf as entryFor, entries, isRefused}
 use Rattle.transfer.specs.declared.Transfer.{Transfer}
 use Rattle.transfer.specs.declared.Stepped.{Stepped}
 use Rattle.transfer.specs.declared.Answer.{Answer}
@@ -32,6 +32,10 @@ use Rattle.send.specs.Send.{headOf, fitting, nextCauses, nextStep, nextB
 use Rattle.send.specs.Calls.{Call, plain, next, stepOf}
 use Rattle.send.specs.History.{Shot, found, written, unwritten, shotsOf, frameOf, entryOf, frames}
 use Rattle.send.proofs.Laws.{Long, long}
+
+-- the frames of what a call left, before those of the history
+pub joined : (es : List (EntryOf Shot)) (fs : List Entry) (h : List (EntryOf Shot)) → frames es ≡ fs → fs ++ frames h ≡ frames (es ++ h)
+joined es fs h e = sym (map-append entryOf es h ∙ ap (λ (l : List Entry). l ++ frames h) e)
 
 -- an entry's frame goes through
 pub entry-frames : (c : plainly.Call) (f : Shot) (a : Answer) → frames (entries c f a) ≡ entries c (frameOf f) a

@@ -1,8 +1,8 @@
 -- Demand 3 down to the bytes: of each call the history that is read from the bytes says what the transfer's own history says, so
 -- the invariant of the transfer is kept by plain calls and next-frame calls alike. Assumes nothing.
 use Prim.Native.Nat.{ℕ}
-use mathlib.Core.List.{List, [], _∷_, _++_, map-append}
-use mathlib.Core.Path.{_≡_, sym, ap, subst, _∙_}
+use mathlib.Core.List.{List, [], _∷_, _++_}
+use mathlib.Core.Path.{_≡_, sym, subst}
 use native.Mathlib.Omega.{arith}
 use Rattle.laws.proofs.Bools.{never}
 use Rattle.refusals.specs.declared.Refusal.{Refusal}
@@ -18,8 +18,8 @@ use Rattle.transfer.proofs.Balance.{Inv, After, keeps, at-first}
 use Rattle.transfer.proofs.Demand.{demand, demand-of}
 use Rattle.send.specs.Send.{headOf, nextStep}
 use Rattle.send.specs.Calls.{Call, plain, next, stepOf, run, Typed, AllTyped}
-use Rattle.send.specs.History.{Shot, unwritten, shotsOf, history, entryOf, frames}
-use Rattle.send.proofs.Bytes.{entry-frames, Outcome, taken, kept, outcome, next-frames}
+use Rattle.send.specs.History.{Shot, unwritten, shotsOf, history, frames}
+use Rattle.send.proofs.Bytes.{entry-frames, joined, Outcome, taken, kept, outcome, next-frames}
 
 apart : _≡_ {A = ℕ} 0 1 → ⊥
 apart z = omega arith
@@ -52,7 +52,7 @@ pub sound : (bound : ℕ) (s : Transfer) (h : List (EntryOf Shot)) (c : Call) �
 sound bound s h (plain c) typed i =
     let same = entry-frames c (unwritten s) (plainly.stepOf bound c s .answer) in
     record {
-      holds = subst (λ (es : List Entry). Inv bound (plainly.stepOf bound c s .state) (view es)) (sym (map-append entryOf (shotsOf bound (plain c) s) h ∙ ap (λ (es : List Entry). es ++ frames h) same)) (keeps bound s (frames h) i c);
+      holds = subst (λ (es : List Entry). Inv bound (plainly.stepOf bound c s .state) (view es)) (joined (shotsOf bound (plain c) s) _ h same) (keeps bound s (frames h) i c);
       demand = subst (λ (es : List Entry). Demand3 bound s (frames h) es (plainly.stepOf bound c s)) (sym same) (demand bound s (frames h) i c);
     }
 sound bound s h (next destination source tag body out) typed i =
@@ -60,7 +60,7 @@ sound bound s h (next destination source tag body out) typed i =
     let meets = next-meets bound s (frames h) i destination source tag body out typed in
     let st = nextStep bound s (headOf s destination source tag) body out in
     record {
-      holds = subst (λ (es : List Entry). Inv bound (st .state) (view es)) (sym (map-append entryOf (shotsOf bound (next destination source tag body out) s) h ∙ ap (λ (es : List Entry). es ++ frames h) same)) (meets .0);
+      holds = subst (λ (es : List Entry). Inv bound (st .state) (view es)) (joined (shotsOf bound (next destination source tag body out) s) _ h same) (meets .0);
       demand = subst (λ (es : List Entry). Demand3 bound s (frames h) es st) (sym same) (meets .1);
     }
 
