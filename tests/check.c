@@ -1,5 +1,6 @@
 #include "check.h"
 
+#include <inttypes.h>
 #include <stdarg.h>
 #include <stdio.h>
 #include <stdlib.h>
@@ -8,9 +9,10 @@
 static uint64_t noise_state;
 static unsigned long passed, failed;
 
-void noise_seed(uint64_t seed)
+void noise_begin(int argc, char **argv, uint64_t seed)
 {
-	noise_state = seed;
+	noise_state = argc > 1 ? strtoull(argv[1], NULL, 0) : seed;
+	printf("seed 0x%" PRIX64 "\n", noise_state);
 }
 
 /* splitmix64: one addition and a mix, good enough to spread cases and the same everywhere. */

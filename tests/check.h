@@ -7,7 +7,8 @@
 #include <stdint.h>
 
 /* The same seed gives the same numbers on every machine. */
-void noise_seed(uint64_t seed);
+/* By the first argument if there is one; says which seed it was. */
+void noise_begin(int argc, char **argv, uint64_t seed);
 uint64_t noise(void);
 uint64_t noise_below(uint64_t bound);
 void noise_fill(void *at, size_t count);

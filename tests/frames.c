@@ -14,9 +14,7 @@
 #include "plain.h"
 #include "sonerwal.h"
 
-#include <inttypes.h>
 #include <stdio.h>
-#include <stdlib.h>
 #include <string.h>
 
 enum {
@@ -655,9 +653,7 @@ static void show_coverage(void)
 
 int main(int argc, char **argv)
 {
-	uint64_t seed = argc > 1 ? strtoull(argv[1], NULL, 0) : UINT64_C(0x50C1A101);
-	printf("seed 0x%" PRIX64 "\n", seed);
-	noise_seed(seed);
+	noise_begin(argc, argv, UINT64_C(0x50C1A101));
 	run_tests();
 	show_coverage();
 	return check_end("frames");

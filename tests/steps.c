@@ -8,9 +8,7 @@
 #include "check.h"
 #include "plain.h"
 
-#include <inttypes.h>
 #include <stdio.h>
-#include <stdlib.h>
 #include <string.h>
 
 enum { BOUND = 64, MOST_STEPS = 150, MOST_BODY = 1032, MOST_OUT = 24 + MOST_BODY + 8, CASES = 100000 };
@@ -301,9 +299,7 @@ static void sixteen(void)
 
 int main(int argc, char **argv)
 {
-	uint64_t seed = argc > 1 ? strtoull(argv[1], NULL, 0) : UINT64_C(0x50C1A102);
-	printf("seed 0x%" PRIX64 "\n", seed);
-	noise_seed(seed);
+	noise_begin(argc, argv, UINT64_C(0x50C1A102));
 	any_cases();
 	show_met();
 	sixteen();
