@@ -43,6 +43,14 @@ use Rattle.transfer.proofs.Transfer.taken.Kinds as taken-of
 use Rattle.transfer.proofs.Transfer.taken.Reads as taken
 use Rattle.send.proofs.next_frame.Kinds as next-frame-of
 use Rattle.send.proofs.next_frame.Reads as next-frame
+use Rattle.lines.proofs.read_number.Kinds as read-number-of
+use Rattle.lines.proofs.read_number.Reads as read-number
+use Rattle.runs.proofs.fresh.Kinds as fresh-of
+use Rattle.runs.proofs.fresh.Reads as fresh
+use Rattle.runs.proofs.feed.Kinds as feed-of
+use Rattle.runs.proofs.feed.Reads as feed
+use Rattle.runs.proofs.close.Kinds as close-of
+use Rattle.runs.proofs.close.Reads as close
 
 -- of a function of n lifetimes, parameters ps and result r, with this promise
 pub record Outcome (n : ℕ) (ps : List (kinds.PK n)) (r : kinds.RK n) (post : kinds.Out n ps r) : Type 0 where
@@ -108,3 +116,15 @@ Taken = Outcome 0 taken-of.ps taken-of.r taken.Post
 
 abbrev pub NextFrame : Type 0
 NextFrame = Outcome 2 next-frame-of.ps next-frame-of.r next-frame.Post
+
+abbrev pub ReadNumber : Type 0
+ReadNumber = Outcome 1 read-number-of.ps read-number-of.r read-number.Post
+
+abbrev pub Fresh : Type 0
+Fresh = Outcome 0 fresh-of.ps fresh-of.r fresh.Post
+
+abbrev pub Feed : Type 0
+Feed = Outcome 2 feed-of.ps feed-of.r feed.Post
+
+abbrev pub Close : Type 0
+Close = Outcome 1 close-of.ps close-of.r close.Post

@@ -12,6 +12,9 @@ use Rattle.transfer.specs.Steps.{bound64}
 use Rattle.transfer.specs.Calls.{start, frame as framed, run}
 use Rattle.transfer.specs.Examples.{listing, times, listed, output}
 use Rattle.transfer.proofs.Examples.{p10 as listing-is, p11 as sixteen}
+use Rattle.runs.specs.Output.{outputOf}
+use Rattle.runs.specs.Listing.{listed as listed-bytes, printed}
+use Rattle.runs.proofs.Listing.{listing as text-is}
 use Rattle.claims.proofs.Priority.{not-higher}
 
 -- an OPEN frame with this AWT and source, whatever its other fields
@@ -39,6 +42,9 @@ pub record Examples : Type 0 where
   -- 01 READ.5 01 READ.8
   -- 01 EXAMPLE.5: P10 the listing.
   pub p10 : listing bound64 1 listed before ≡ output
+  -- 01 TEXT.6
+  -- and of the text: the listing's bytes in give the listing's bytes out
+  pub p10-text : outputOf listed-bytes ≡ printed
   -- 01 EXAMPLE.6: P11 B 0, M 4, N 100, sixteen frames, no answer: balance 0, unanswered 16.
   pub p11 : let s = run bound64 (start 0 100 4 0 ∷ times 16 framed) before in (s .balance ≡ 0) × (s .unanswered ≡ 16)
 
@@ -53,5 +59,6 @@ examples = record {
   p7 = λ h k p q source larger l. refl;
   p8 = λ h k p q awt source. not-higher (frame h p awt source) (frame k q awt source) (record { awt = refl; source = refl });
   p10 = listing-is;
+  p10-text = text-is;
   p11 = sixteen;
 }

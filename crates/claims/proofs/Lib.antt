@@ -9,5 +9,6 @@ pub mod Priority
 pub mod Refusals
 pub mod StepRefusals
 pub mod Steps
+pub mod Text
 pub mod Total
 pub mod Unique

@@ -52,6 +52,30 @@ use Rattle.transfer.proofs.Transfer.cancel.Kinds as cancel-of
 use Rattle.transfer.proofs.Transfer.cancel.Reads as cancel
 use Rattle.send.proofs.next_frame.Kinds as next-frame-of
 use Rattle.send.proofs.next_frame.Reads as next-frame
+use Rattle.lines.proofs.read_number.Kinds as read-number-of
+use Rattle.lines.proofs.read_number.Reads as read-number
+use Rattle.lines.proofs.find.Kinds as find-of
+use Rattle.lines.proofs.find.Reads as find
+use Rattle.lines.proofs.fields.Kinds as fields-of
+use Rattle.lines.proofs.fields.Reads as fields
+use Rattle.lines.proofs.field.Kinds as field-of
+use Rattle.lines.proofs.field.Reads as field
+use Rattle.lines.proofs.same.Kinds as same-of
+use Rattle.lines.proofs.same.Reads as same
+use Rattle.lines.proofs.put_byte.Kinds as put-byte-of
+use Rattle.lines.proofs.put_byte.Reads as put-byte
+use Rattle.lines.proofs.put_bytes.Kinds as put-bytes-of
+use Rattle.lines.proofs.put_bytes.Reads as put-bytes
+use Rattle.lines.proofs.put_number.Kinds as put-number-of
+use Rattle.lines.proofs.put_number.Reads as put-number
+use Rattle.runs.proofs.fresh.Kinds as fresh-of
+use Rattle.runs.proofs.fresh.Reads as fresh
+use Rattle.runs.proofs.take_line.Kinds as take-line-of
+use Rattle.runs.proofs.take_line.Reads as take-line
+use Rattle.runs.proofs.feed.Kinds as feed-of
+use Rattle.runs.proofs.feed.Reads as feed
+use Rattle.runs.proofs.close.Kinds as close-of
+use Rattle.runs.proofs.close.Reads as close
 use Rattle.sonerwal.proofs.sas_open_read.Kinds as sas-open-read-of
 use Rattle.sonerwal.proofs.sas_open_read.Reads as sas-open-read
 use Rattle.sonerwal.proofs.sas_open_write.Kinds as sas-open-write-of
@@ -98,6 +122,18 @@ pub record Total : Type 0 where
   pub nexus : Anything 0 nexus-of.ps nexus.Pre
   pub cancel : Anything 0 cancel-of.ps cancel.Pre
   pub next-frame : Anything 2 next-frame-of.ps next-frame.Pre
+  pub read-number : Anything 1 read-number-of.ps read-number.Pre
+  pub find : Anything 1 find-of.ps find.Pre
+  pub fields : Anything 1 fields-of.ps fields.Pre
+  pub field : Anything 1 field-of.ps field.Pre
+  pub same : Anything 2 same-of.ps same.Pre
+  pub put-byte : Anything 1 put-byte-of.ps put-byte.Pre
+  pub put-bytes : Anything 2 put-bytes-of.ps put-bytes.Pre
+  pub put-number : Anything 1 put-number-of.ps put-number.Pre
+  pub fresh : Anything 0 fresh-of.ps fresh.Pre
+  pub take-line : Anything 2 take-line-of.ps take-line.Pre
+  pub feed : Anything 2 feed-of.ps feed.Pre
+  pub close : Anything 1 close-of.ps close.Pre
   pub sas-open-read : Anything 10 sas-open-read-of.ps sas-open-read.Pre
   pub sas-open-write : Anything 1 sas-open-write-of.ps sas-open-write.Pre
   pub sas-data-read : Anything 7 sas-data-read-of.ps sas-data-read.Pre
@@ -133,6 +169,18 @@ total = record {
   nexus = λ κs a. tt;
   cancel = λ κs a. tt;
   next-frame = λ κs a. tt;
+  read-number = λ κs a. tt;
+  find = λ κs a. tt;
+  fields = λ κs a. tt;
+  field = λ κs a. tt;
+  same = λ κs a. tt;
+  put-byte = λ κs a. tt;
+  put-bytes = λ κs a. tt;
+  put-number = λ κs a. tt;
+  fresh = λ κs a. tt;
+  take-line = λ κs a. tt;
+  feed = λ κs a. tt;
+  close = λ κs a. tt;
   sas-open-read = λ κs a. tt;
   sas-open-write = λ κs a. tt;
   sas-data-read = λ κs a. tt;

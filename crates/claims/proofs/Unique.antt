@@ -59,6 +59,30 @@ use Rattle.transfer.proofs.Transfer.cancel.Kinds as cancel-of
 use Rattle.transfer.proofs.Transfer.cancel.Reads as cancel
 use Rattle.send.proofs.next_frame.Kinds as next-frame-of
 use Rattle.send.proofs.next_frame.Reads as next-frame
+use Rattle.lines.proofs.read_number.Kinds as read-number-of
+use Rattle.lines.proofs.read_number.Reads as read-number
+use Rattle.lines.proofs.find.Kinds as find-of
+use Rattle.lines.proofs.find.Reads as find
+use Rattle.lines.proofs.fields.Kinds as fields-of
+use Rattle.lines.proofs.fields.Reads as fields
+use Rattle.lines.proofs.field.Kinds as field-of
+use Rattle.lines.proofs.field.Reads as field
+use Rattle.lines.proofs.same.Kinds as same-of
+use Rattle.lines.proofs.same.Reads as same
+use Rattle.lines.proofs.put_byte.Kinds as put-byte-of
+use Rattle.lines.proofs.put_byte.Reads as put-byte
+use Rattle.lines.proofs.put_bytes.Kinds as put-bytes-of
+use Rattle.lines.proofs.put_bytes.Reads as put-bytes
+use Rattle.lines.proofs.put_number.Kinds as put-number-of
+use Rattle.lines.proofs.put_number.Reads as put-number
+use Rattle.runs.proofs.fresh.Kinds as fresh-of
+use Rattle.runs.proofs.fresh.Reads as fresh
+use Rattle.runs.proofs.take_line.Kinds as take-line-of
+use Rattle.runs.proofs.take_line.Reads as take-line
+use Rattle.runs.proofs.feed.Kinds as feed-of
+use Rattle.runs.proofs.feed.Reads as feed
+use Rattle.runs.proofs.close.Kinds as close-of
+use Rattle.runs.proofs.close.Reads as close
 use Rattle.sonerwal.proofs.sas_open_read.Kinds as sas-open-read-of
 use Rattle.sonerwal.proofs.sas_open_read.Reads as sas-open-read
 use Rattle.sonerwal.proofs.sas_open_write.Kinds as sas-open-write-of
@@ -95,6 +119,24 @@ write-data-left κs s = now (s .1 .1 .0)
 
 abbrev next-frame-left : (κs : Lifetimes.Lfts 2) → Clauses.AtExit (kinds.endedOf 2 next-frame-of.ps next-frame-of.r) κs → List ℕ
 next-frame-left κs s = now (s .1 .1 .1 .1 .1 .0)
+
+abbrev put-byte-left : (κs : Lifetimes.Lfts 1) → Clauses.AtExit (kinds.endedOf 1 put-byte-of.ps put-byte-of.r) κs → List ℕ
+put-byte-left κs s = now (s .1 .0)
+
+abbrev put-bytes-left : (κs : Lifetimes.Lfts 2) → Clauses.AtExit (kinds.endedOf 2 put-bytes-of.ps put-bytes-of.r) κs → List ℕ
+put-bytes-left κs s = now (s .1 .0)
+
+abbrev put-number-left : (κs : Lifetimes.Lfts 1) → Clauses.AtExit (kinds.endedOf 1 put-number-of.ps put-number-of.r) κs → List ℕ
+put-number-left κs s = now (s .1 .0)
+
+abbrev take-line-left : (κs : Lifetimes.Lfts 2) → Clauses.AtExit (kinds.endedOf 2 take-line-of.ps take-line-of.r) κs → List ℕ
+take-line-left κs s = now (s .1 .1 .1 .0)
+
+abbrev feed-left : (κs : Lifetimes.Lfts 2) → Clauses.AtExit (kinds.endedOf 2 feed-of.ps feed-of.r) κs → List ℕ
+feed-left κs s = now (s .1 .1 .0)
+
+abbrev close-left : (κs : Lifetimes.Lfts 1) → Clauses.AtExit (kinds.endedOf 1 close-of.ps close-of.r) κs → List ℕ
+close-left κs s = now (s .1 .0)
 
 abbrev sas-open-read-left : (κs : Lifetimes.Lfts 10) → Clauses.AtExit (kinds.endedOf 10 sas-open-read-of.ps sas-open-read-of.r) κs → OpenFrame
 sas-open-read-left κs s = open9 (now (s .1 .0)) (now (s .1 .1 .0)) (now (s .1 .1 .1 .0)) (now (s .1 .1 .1 .1 .0)) (now (s .1 .1 .1 .1 .1 .0)) (now (s .1 .1 .1 .1 .1 .1 .0)) (now (s .1 .1 .1 .1 .1 .1 .1 .0)) (now (s .1 .1 .1 .1 .1 .1 .1 .1 .0)) (now (s .1 .1 .1 .1 .1 .1 .1 .1 .1 .0))
@@ -139,6 +181,18 @@ pub record Unique : Type 0 where
   pub nexus : One 0 nexus-of.ps nexus-of.r (none 0 nexus-of.ps nexus-of.r) nexus.Post
   pub cancel : One 0 cancel-of.ps cancel-of.r (none 0 cancel-of.ps cancel-of.r) cancel.Post
   pub next-frame : One 2 next-frame-of.ps next-frame-of.r next-frame-left next-frame.Post
+  pub read-number : One 1 read-number-of.ps read-number-of.r (none 1 read-number-of.ps read-number-of.r) read-number.Post
+  pub find : One 1 find-of.ps find-of.r (none 1 find-of.ps find-of.r) find.Post
+  pub fields : One 1 fields-of.ps fields-of.r (none 1 fields-of.ps fields-of.r) fields.Post
+  pub field : (κs : Lifetimes.Lfts 1) (a : kinds.Dens κs field-of.ps) (x y : kinds.resT field-of.r κs .Denot) (s t : Clauses.AtExit (kinds.endedOf 1 field-of.ps field-of.r) κs) → field.Post κs a x s → field.Post κs a y t → now x ≡ now y
+  pub same : One 2 same-of.ps same-of.r (none 2 same-of.ps same-of.r) same.Post
+  pub put-byte : One 1 put-byte-of.ps put-byte-of.r put-byte-left put-byte.Post
+  pub put-bytes : One 2 put-bytes-of.ps put-bytes-of.r put-bytes-left put-bytes.Post
+  pub put-number : One 1 put-number-of.ps put-number-of.r put-number-left put-number.Post
+  pub fresh : One 0 fresh-of.ps fresh-of.r (none 0 fresh-of.ps fresh-of.r) fresh.Post
+  pub take-line : One 2 take-line-of.ps take-line-of.r take-line-left take-line.Post
+  pub feed : One 2 feed-of.ps feed-of.r feed-left feed.Post
+  pub close : One 1 close-of.ps close-of.r close-left close.Post
   pub sas-open-read : One 10 sas-open-read-of.ps sas-open-read-of.r sas-open-read-left sas-open-read.Post
   pub sas-open-write : One 1 sas-open-write-of.ps sas-open-write-of.r sas-open-write-left sas-open-write.Post
   pub sas-data-read : One 7 sas-data-read-of.ps sas-data-read-of.r sas-data-read-left sas-data-read.Post
@@ -174,6 +228,18 @@ unique = record {
   nexus = λ κs a x y s t p q. (p ∙ sym q, refl);
   cancel = λ κs a x y s t p q. (p ∙ sym q, refl);
   next-frame = λ κs a x y s t p q. (p .step ∙ sym (q .step), p .bytes ∙ sym (q .bytes));
+  read-number = λ κs a x y s t p q. (p ∙ sym q, refl);
+  find = λ κs a x y s t p q. (p ∙ sym q, refl);
+  fields = λ κs a x y s t p q. (p ∙ sym q, refl);
+  field = λ κs a x y s t p q. p ∙ sym q;
+  same = λ κs a x y s t p q. (p ∙ sym q, refl);
+  put-byte = λ κs a x y s t p q. (p .place ∙ sym (q .place), p .bytes ∙ sym (q .bytes));
+  put-bytes = λ κs a x y s t p q. (p .place ∙ sym (q .place), p .bytes ∙ sym (q .bytes));
+  put-number = λ κs a x y s t p q. (p .place ∙ sym (q .place), p .bytes ∙ sym (q .bytes));
+  fresh = λ κs a x y s t p q. (p ∙ sym q, refl);
+  take-line = λ κs a x y s t p q. (λ i. record { state = (p .state ∙ sym (q .state)) i; place = (p .bytes .place ∙ sym (q .bytes .place)) i }, p .bytes .bytes ∙ sym (q .bytes .bytes));
+  feed = λ κs a x y s t p q. (p .answer ∙ sym (q .answer), p .bytes ∙ sym (q .bytes));
+  close = λ κs a x y s t p q. (p .answer ∙ sym (q .answer), p .bytes ∙ sym (q .bytes));
   sas-open-read = λ κs a x y s t p q. (p .answer ∙ sym (q .answer), p .lent ∙ sym (q .lent));
   sas-open-write = λ κs a x y s t p q. (p .answer ∙ sym (q .answer), p .lent ∙ sym (q .lent));
   sas-data-read = λ κs a x y s t p q. (p .answer ∙ sym (q .answer), p .lent ∙ sym (q .lent));

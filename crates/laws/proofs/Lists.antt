@@ -33,3 +33,9 @@ pub back-tail : (a : ℕ) (l ys : List ℕ) → putMid a (length l - a) l ys ≡
 back-tail a l ys =
     ap (λ (z : List ℕ). take a l ++ (ys ++ z)) (drop-of-length-le (drop a l) {i = length l - a} (omega (arith, length-drop a l)))
     ∙ ap (λ (z : List ℕ). take a l ++ z) (append-nil ys)
+
+-- as many elements as a front has are that front
+pub front-again : (n : ℕ) (s : List ℕ) → take (length (take n s)) s ≡ take n s
+front-again zero s = refl
+front-again (suc n) [] = refl
+front-again (suc n) (x ∷ s) = ap (λ (l : List ℕ). x ∷ l) (front-again n s)

@@ -10,6 +10,7 @@ use native.Mathlib.Omega.{arith}
 use lib.Dec.{ltb, leb, eqb}
 use lib.ListN.{length, length-append}
 use borrow.Author.Tests.{ltb-true, ltb-false, eqb-true, eqb-false, leb-false, not-false}
+use Rattle.laws.proofs.Bools.{by-test}
 use Rattle.refusals.specs.Causes.{refuse}
 use Rattle.refusals.specs.declared.Refusal.{Refusal}
 use Rattle.transfer.specs.Rules.{endOf, before}
@@ -24,7 +25,6 @@ use Rattle.transfer.specs.declared.Transfer.{Transfer}
 use Rattle.transfer.specs.declared.Stepped.{Stepped}
 use Rattle.transfer.specs.declared.Answer.{Answer}
 use Rattle.transfer.specs.declared.Phase.{Phase}
-use Rattle.transfer.proofs.Tests.{by-test}
 use Rattle.refusals.proofs.Causes.{by-causes}
 use Rattle.transfer.proofs.Calls.{run-phase, drain-phase, work, some-left}
 

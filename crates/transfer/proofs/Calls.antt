@@ -7,7 +7,7 @@ use mathlib.Core.Logic.{_⊎_, inl, inr, ⊎-elim}
 use native.Mathlib.Omega.{arith}
 use lib.Dec.{leb, eqb}
 use borrow.Author.Tests.{not-true, not-false, eqb-false, leb-false}
-use Rattle.laws.proofs.Bools.{never}
+use Rattle.laws.proofs.Bools.{never, nor}
 use Rattle.transfer.specs.Rules.{endOf, before, framesOut, rules}
 use Rattle.transfer.specs.Steps.{unfinished, draining, frameLength, answerCauses}
 use Rattle.transfer.specs.declared.Transfer.{Transfer}
@@ -25,10 +25,6 @@ module _ {x t : Bool} (is : x ≡ t) where
 
   pub or-none : (n : ℕ) {v : Bool} → not x || eqb n 0 ≡ v → not t || eqb n 0 ≡ v
   or-none n e = ap (λ (b : Bool). not b || eqb n 0) (sym is) ∙ e
-
-nor : (t u : Bool) → t || u ≡ false → (t ≡ false) × (u ≡ false)
-nor true u e = absurd (never (sym e))
-nor false u e = (refl, e)
 
 -- the transfer is unfinished, and a frame unanswered
 pub some-left : (s : Transfer) → not (unfinished (s .phase)) || eqb (s .unanswered) 0 ≡ false → (unfinished (s .phase) ≡ true) × (0 < s .unanswered)

@@ -8,6 +8,7 @@ use native.Mathlib.Omega.{arith}
 use native.Mathlib.Nat.{mul-le-mul-right, lt-of-mul-lt-mul-right}
 use lib.Dec.{leb, eqb}
 use borrow.Author.Tests.{eqb-false, not-false}
+use Rattle.laws.proofs.Bools.{by-test}
 use Rattle.refusals.specs.Causes.{refuse}
 use Rattle.transfer.specs.Rules.{endOf, before, frames}
 use Rattle.transfer.specs.Steps.{draining, started, frameLength, framed, answered, allSent, settled, drained, acked, naked, dropped, ended}
@@ -19,7 +20,6 @@ use Rattle.transfer.specs.Log.{nextFrame, entriesOf, history}
 use Rattle.transfer.specs.declared.Transfer.{Transfer}
 use Rattle.transfer.specs.declared.Stepped.{Stepped}
 use Rattle.transfer.specs.declared.Answer.{Answer}
-use Rattle.transfer.proofs.Tests.{by-test}
 use Rattle.refusals.proofs.Causes.{by-causes}
 use Rattle.transfer.proofs.Calls.{some-left}
 use Rattle.transfer.proofs.Shape.{BaseOf, Live, Good, frames-is, frames-reach}

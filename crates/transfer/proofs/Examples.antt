@@ -4,13 +4,13 @@ use mathlib.Core.Bool.{true}
 use mathlib.Core.List.{_∷_}
 use mathlib.Core.Path.{_≡_, refl}
 use lib.Dec.{eqb}
+use Rattle.laws.proofs.Bools.{by-test}
 use Rattle.transfer.specs.Rules.{before, placed, phaseRule, rules}
 use Rattle.transfer.specs.Steps.{bound64, answered, settled, drained, acked, naked, draining, refused, answerCauses, startStep, frameStep, ackStep, nakStep}
 use Rattle.transfer.specs.Calls.{start, frame, stepOf, run}
 use Rattle.transfer.specs.Examples.{listing, times, listed, output}
 use Rattle.transfer.specs.declared.Transfer.{Transfer}
 use Rattle.transfer.specs.declared.Stepped.{Stepped}
-use Rattle.transfer.proofs.Tests.{by-test}
 use Rattle.refusals.proofs.Causes.{by-causes}
 
 -- 01 EXAMPLE.P10: P10 the listing.

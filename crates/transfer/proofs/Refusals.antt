@@ -6,7 +6,7 @@ use mathlib.Core.List.{List, [], _∷_}
 use mathlib.Core.Logic.{inl, inr, _↔_}
 use mathlib.Core.Path.{_≡_, refl, sym, ap, subst⁻¹, _∙_}
 use lib.Dec.{leb, eqb}
-use Rattle.laws.proofs.Bools.{never}
+use Rattle.laws.proofs.Bools.{never, by-test}
 use Rattle.refusals.specs.Causes.{Cause, refuse, First, Decides, nil, cons}
 use Rattle.refusals.specs.declared.Refusal.{Refusal}
 use Rattle.refusals.proofs.Causes as causes
@@ -21,7 +21,7 @@ use Rattle.transfer.specs.declared.Transfer.{Transfer}
 use Rattle.transfer.specs.declared.Stepped.{Stepped}
 use Rattle.transfer.specs.declared.Answer.{Answer}
 use Rattle.transfer.specs.declared.Phase.{Phase}
-use Rattle.transfer.proofs.Tests.{Says, most, equal, either, by-test}
+use Rattle.transfer.proofs.Tests.{Says, most, equal, either}
 use Rattle.refusals.proofs.Causes.{by-causes}
 use Rattle.transfer.proofs.Facts.{in-range}
 use Rattle.transfer.proofs.Calls.{work, drain-phase}

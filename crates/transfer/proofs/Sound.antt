@@ -8,7 +8,7 @@ use mathlib.Core.Path.{_≡_, refl, sym, ap, subst, subst⁻¹, _∙_}
 use native.Mathlib.Omega.{arith}
 use lib.Dec.{leb, eqb}
 use borrow.Author.Tests.{eqb-true, eqb-false, leb-true, leb-false, not-false}
-use Rattle.laws.proofs.Bools.{never}
+use Rattle.laws.proofs.Bools.{never, by-test, nor}
 use Rattle.refusals.specs.Causes.{refuse}
 use Rattle.refusals.specs.declared.Refusal.{Refusal}
 use Rattle.transfer.specs.Rules.{endOf, before}
@@ -21,7 +21,6 @@ use Rattle.transfer.specs.declared.Transfer.{Transfer}
 use Rattle.transfer.specs.declared.Stepped.{Stepped}
 use Rattle.transfer.specs.declared.Answer.{Answer}
 use Rattle.transfer.specs.declared.Phase.{Phase}
-use Rattle.transfer.proofs.Tests.{by-test, nor}
 use Rattle.refusals.proofs.Causes.{by-causes}
 use Rattle.transfer.proofs.Calls.{run-phase, drain-phase, work, some-left}
 use Rattle.transfer.proofs.Facts.{in-range, sent-by, RunRule, DrainRule, PhaseRule}

@@ -1,11 +1,11 @@
 -- A joined test says what its parts say, joined. Assumes nothing.
 use Prim.Native.Nat.{ℕ, _≤_, _<_}
-use mathlib.Core.Path.{_≡_, refl, sym}
-use mathlib.Core.Bool.{Bool, true, false, not, cond, _&&_, _||_}
+use mathlib.Core.Path.{_≡_, refl}
+use mathlib.Core.Bool.{Bool, true, false, not, _&&_, _||_}
 use mathlib.Core.Logic.{_⊎_, inl, inr, ⊎-elim, _↔_}
 use lib.Dec.{ltb, leb, eqb}
 use borrow.Author.Tests.{ltb-true, leb-true, eqb-true, lt-ltb, le-leb, eq-eqb, not-true}
-use Rattle.laws.proofs.Bools.{never, and-left, and-right, and-true}
+use Rattle.laws.proofs.Bools.{and-left, and-right, and-true}
 
 -- the test t is passed exactly if P
 abbrev pub Says : Bool → Type 0 → Type 0
@@ -47,12 +47,3 @@ module _ {a b : Bool} {P Q : Type 0} (p : Says a P) (q : Says b Q) where
 -- a test that says something else by another law
 pub means : {t : Bool} {P Q : Type 0} → Says t P → P ↔ Q → Says t Q
 means p q = (λ e. q .0 (p .0 e), λ h. p .1 (q .1 h))
-
--- what holds of both choices holds of the choice
-pub by-test {ℓ} : {A : Type ℓ} (P : A → Type 0) (t : Bool) {a b : A} → (t ≡ true → P a) → (t ≡ false → P b) → P (cond t a b)
-by-test P true f g = f refl
-by-test P false f g = g refl
-
-pub nor : (t u : Bool) → t || u ≡ false → (t ≡ false) × (u ≡ false)
-nor true u e = absurd (never (sym e))
-nor false u e = (refl, e)

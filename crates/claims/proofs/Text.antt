@@ -1,0 +1,103 @@
+-- Demand 2, text: what `readrun`'s calls write, whatever the blocks that come in and the buffers that go out, is document 01's output,
+-- since each call takes up what the last one carried over; a line says a command exactly if it is that command written; and a number
+-- is read as it is written. Assumes nothing.
+use Prim.Native.Nat.{ℕ, zero, suc, _≤_}
+use mathlib.Core.Bool.{Bool, true, false, cond}
+use mathlib.Core.List.{List, [], _∷_, _++_, append-nil, append-assoc}
+use mathlib.Core.Path.{_≡_, refl, sym, ap, _∙_}
+use borrow.Author.Tests.{le-ltb}
+use denote.Ref.{now}
+use lib.Dec.{eqb, ltb}
+use lib.ListN.{length, take, drop}
+use lib.Seq.{take-append-seam}
+use Rattle.laws.proofs.Lists.{front-again}
+use Rattle.lines.specs.Numbers.{readNumber, decimal}
+use Rattle.lines.specs.Parts.{lf}
+use Rattle.lines.specs.declared.Number.the-variants.{Value}
+use Rattle.lines.proofs.Numbers.{read-written, written-read}
+use Rattle.runs.specs.Commands.{readLine, written}
+use Rattle.runs.specs.Rows.{longestRow}
+use Rattle.runs.specs.Feed.{Carry, carryOf, runOf, fresh, saidAt, after, said, takes, takenOf, fedOf, closing, Feeds}
+use Rattle.runs.specs.Output.{outputOf}
+use Rattle.runs.specs.declared.Command.{Command}
+use Rattle.runs.specs.declared.Command.the-variants.{Bad}
+use Rattle.runs.specs.declared.Run.{Run}
+use Rattle.runs.specs.declared.Fed.{Fed}
+use Rattle.runs.proofs.Inverse.{Writable, said-is, is-said}
+use Rattle.runs.proofs.Carry.{after-append, said-append}
+use Rattle.runs.proofs.Output.{whole, carried, blocks, blocks-said}
+use Rattle.claims.proofs.Calls.{Outcome, ReadNumber, Fresh, Feed, Close}
+
+-- some calls of `feed`, each with the run that the last one left, have taken this input, written these words and left this run
+pub data Ran : List ℕ → List ℕ → Run → Type 0 where
+  begun : (c : Fresh) → Ran [] [] (c .answer)
+  fed : {input words : List ℕ} {run : Run} → Ran input words run → (c : Feed) → c .args .0 ≡ run → Ran (input ++ take (c .answer .used) (now (c .args .1 .0))) (words ++ take (c .answer .wrote) (now (c .exit .1 .1 .0))) (c .answer .run)
+
+-- what a run says of some bytes
+abbrev words-of : Run → List ℕ → List ℕ
+words-of run s = said (carryOf run) s
+
+-- 01 TEXT.1 01 TEXT.2 01 TEXT.3 01 TEXT.4 01 TEXT.5
+pub record Text : Type 0 where
+  pub prints : {input words : List ℕ} {run : Run} → Ran input words run → (c : Close) → c .args .0 ≡ run → longestRow ≤ length (now (c .args .1 .0)) → words ++ take (c .answer .wrote) (now (c .exit .1 .0)) ≡ outputOf input
+  -- feeding s and then t is feeding s ++ t
+  pub parts : (run : Run) (s t : List ℕ) →
+      (runOf (after (carryOf (runOf (after (carryOf run) s))) t) ≡ runOf (after (carryOf run) (s ++ t)))
+      × (words-of run s ++ words-of (runOf (after (carryOf run) s)) t ≡ words-of run (s ++ t))
+  pub says : (s : List ℕ) (c : Command) → (c ≡ Bad → ⊥) → readLine s ≡ c → s ≡ written c
+  pub said : (c : Command) → Writable c → readLine (written c) ≡ c
+  pub reads : (c : ReadNumber) (n : ℕ) → now (c .args .0) ≡ decimal n → n ≤ c .args .1 .0 → c .answer ≡ Value n
+  pub writes : (c : ReadNumber) (n : ℕ) → c .answer ≡ Value n → (decimal n ≡ now (c .args .0)) × (n ≤ c .args .1 .0)
+
+-- what one call does, by its promise
+module _ {run : Run} {block out out' : List ℕ} {r : Fed} (f : Feeds run block out r out') where
+  abbrev taken : List ℕ
+  taken = takenOf run block out
+
+  took : take (r .used) block ≡ taken
+  took = ap (λ (x : Fed). take (x .used) block) (f .answer) ∙ front-again (takes (length out) (carryOf run) block) block
+
+  wrote : take (r .wrote) out' ≡ said (carryOf run) taken
+  wrote = (λ i. take (f .answer i .wrote) (f .bytes i)) ∙ take-append-seam (said (carryOf run) taken) (drop (length (said (carryOf run) taken)) out)
+
+  ran : r .run ≡ runOf (after (carryOf run) taken)
+  ran = ap (λ (x : Fed). x .run) (f .answer)
+
+-- how a run stands
+stands : {input words : List ℕ} {run : Run} → Ran input words run → (run ≡ runOf (after fresh input)) × (words ≡ said fresh input)
+stands (begun c) = (c .met, refl)
+stands (fed {input} {words} {run} r c e) =
+    let at = stands r in
+    let carry : carryOf (c .args .0) ≡ after fresh input = ap carryOf (e ∙ at .0) ∙ carried (after fresh input) in
+    let t = taken (c .met) in (
+      ran (c .met)
+          ∙ ap runOf (ap (λ (d : Carry). after d t) carry ∙ sym (after-append fresh input t) ∙ ap (λ (s : List ℕ). after fresh (input ++ s)) (sym (took (c .met)))),
+      (λ i. at .1 i ++ (wrote (c .met) ∙ ap (λ (d : Carry). said d t) carry) i)
+          ∙ sym (said-append fresh input t)
+          ∙ ap (λ (s : List ℕ). said fresh (input ++ s)) (sym (took (c .met))),
+    )
+
+-- with room for a row the last line is taken
+all-closed : (room : ℕ) (c : Carry) (len : ℕ) → longestRow ≤ room → take (takes room c (closing len)) (closing len) ≡ closing len
+all-closed room c len h = by (eqb len 0)
+  where
+    by : (t : Bool) → take (takes room c (cond t [] (lf ∷ []))) (cond t [] (lf ∷ [])) ≡ cond t [] (lf ∷ [])
+    by true = refl
+    by false = ap (λ (u : Bool). take (cond u 0 1) (lf ∷ [])) (le-ltb room longestRow h)
+
+pub text : Text
+text = record {
+  prints = λ {input} {words} {run} r c e h.
+      let at = stands r in
+      let is : c .args .0 ≡ runOf (after fresh input) = e ∙ at .0 in
+      let all = all-closed (length (now (c .args .1 .0))) (carryOf (c .args .0)) (c .args .0 .len) h in
+      (λ i. at .1 i ++ (wrote (c .met) ∙ ap (said (carryOf (c .args .0))) all) i)
+      ∙ ap (λ (x : Run). said fresh input ++ said (carryOf x) (closing (x .len))) is
+      ∙ ap (λ (d : Carry). said fresh input ++ said d (closing (length (after fresh input .begun)))) (carried (after fresh input))
+      ∙ whole input;
+  parts = λ run s t. (blocks run s t, blocks-said run s t);
+  says = λ s c fine e. said-is c fine s e;
+  said = is-said;
+  reads = λ c n e h. c .met ∙ ap (readNumber (c .args .1 .0)) e ∙ read-written (c .args .1 .0) n h;
+  writes = λ c n e. written-read (c .args .1 .0) (now (c .args .0)) n (sym (c .met) ∙ e);
+}

@@ -1,0 +1,8 @@
+-- What `readrun` prints is document 01's output for its input, whatever the blocks.
+pub mod Commands
+pub mod Inverse
+pub mod Rows
+pub mod Carry
+pub mod Turns
+pub mod Output
+pub mod Listing

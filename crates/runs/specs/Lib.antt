@@ -1,0 +1,7 @@
+-- Document 01, 'Read transfer': what `readrun` reads and prints.
+pub mod Letters
+pub mod Commands
+pub mod Rows
+pub mod Feed
+pub mod Output
+pub mod Listing
