@@ -51,6 +51,12 @@ use Rattle.runs.proofs.feed.Kinds as feed-of
 use Rattle.runs.proofs.feed.Reads as feed
 use Rattle.runs.proofs.close.Kinds as close-of
 use Rattle.runs.proofs.close.Reads as close
+use Rattle.xl.proofs.step.Kinds as step-of
+use Rattle.xl.proofs.step.Reads as step
+use Rattle.xl.proofs.receive.Kinds as receive-of
+use Rattle.xl.proofs.receive.Reads as receive
+use Rattle.xl.proofs.status.Kinds as status-of
+use Rattle.xl.proofs.status.Reads as status
 
 -- of a function of n lifetimes, parameters ps and result r, with this promise
 pub record Outcome (n : ℕ) (ps : List (kinds.PK n)) (r : kinds.RK n) (post : kinds.Out n ps r) : Type 0 where
@@ -128,3 +134,12 @@ Feed = Outcome 2 feed-of.ps feed-of.r feed.Post
 
 abbrev pub Close : Type 0
 Close = Outcome 1 close-of.ps close-of.r close.Post
+
+abbrev pub Step : Type 0
+Step = Outcome 0 step-of.ps step-of.r step.Post
+
+abbrev pub Receive : Type 0
+Receive = Outcome 1 receive-of.ps receive-of.r receive.Post
+
+abbrev pub Status : Type 0
+Status = Outcome 0 status-of.ps status-of.r status.Post

@@ -1,8 +1,8 @@
 -- Document 01's P lines, one table under one claim: each is computed from the definitions, or is a case of their laws. Assumes nothing.
 use mathlib.Core.Bool.{true, false}
 use mathlib.Core.List.{_∷_}
-use mathlib.Core.Path.{_≡_, refl}
-use Prim.Native.Nat.{ℕ, _<_}
+use mathlib.Core.Path.{_≡_, refl, ap}
+use Prim.Native.Nat.{ℕ, _+_, _<_, min}
 use Rattle.open_frame.specs.Priority.{higherThan}
 use Rattle.open_frame.specs.Wait.{waitOf}
 use Rattle.open_frame.specs.declared.Head.{Head}
@@ -12,6 +12,10 @@ use Rattle.transfer.specs.Steps.{bound64}
 use Rattle.transfer.specs.Calls.{start, frame as framed, run}
 use Rattle.transfer.specs.Examples.{listing, times, listed, output}
 use Rattle.transfer.proofs.Examples.{p10 as listing-is, p11 as sixteen}
+use Rattle.port_parts.specs.declared.Reason.{Reason}
+use Rattle.port_parts.specs.declared.Request.{Request}
+use Rattle.port_parts.specs.declared.Stamp.{Stamp}
+use Rattle.port_core.specs.Calls.{again}
 use Rattle.runs.specs.Output.{outputOf}
 use Rattle.runs.specs.Listing.{listed as listed-bytes, printed}
 use Rattle.runs.proofs.Listing.{listing as text-is}
@@ -39,6 +43,9 @@ pub record Examples : Type 0 where
   pub p7 : (h k : Head) (p q source larger : ℕ) → source < larger → higherThan (frame h p 2 source) (frame k q 1 larger) ≡ true
   -- 01 EXAMPLE.3: P8 equal both: not higher.
   pub p8 : (h k : Head) (p q awt source : ℕ) → higherThan (frame h p awt source) (frame k q awt source) ≡ false
+  -- 01 PORT.19
+  -- 01 EXAMPLE.4: P9 PBC 255 blocked again: 255.
+  pub p9 : (r : Request) (now : ℕ) (t : Stamp) → r .pbc .0 ≡ 255 → again r Reason.PathwayBlocked now t .pbc .0 ≡ 255
   -- 01 READ.5 01 READ.8
   -- 01 EXAMPLE.5: P10 the listing.
   pub p10 : listing bound64 1 listed before ≡ output
@@ -58,6 +65,7 @@ examples = record {
   p6 = refl;
   p7 = λ h k p q source larger l. refl;
   p8 = λ h k p q awt source. not-higher (frame h p awt source) (frame k q awt source) (record { awt = refl; source = refl });
+  p9 = λ r now t e. ap (λ (n : ℕ). min (n + 1) 255) e;
   p10 = listing-is;
   p10-text = text-is;
   p11 = sixteen;

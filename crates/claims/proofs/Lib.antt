@@ -4,7 +4,10 @@ mod Calls
 pub mod Examples
 pub mod Exact
 pub mod Frames
+pub mod Links
+pub mod LinkRefusals
 mod Grounds
+pub mod Ports
 pub mod Priority
 pub mod Refusals
 pub mod StepRefusals

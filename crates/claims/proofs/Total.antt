@@ -76,6 +76,120 @@ use Rattle.runs.proofs.feed.Kinds as feed-of
 use Rattle.runs.proofs.feed.Reads as feed
 use Rattle.runs.proofs.close.Kinds as close-of
 use Rattle.runs.proofs.close.Reads as close
+use Rattle.xl_parts.proofs.unlinked.Kinds as unlinked-of
+use Rattle.xl_parts.proofs.unlinked.Reads as unlinked
+use Rattle.xl_parts.proofs.stays.Kinds as stays-of
+use Rattle.xl_parts.proofs.stays.Reads as stays
+use Rattle.xl_parts.proofs.goes.Kinds as goes-of
+use Rattle.xl_parts.proofs.goes.Reads as goes
+use Rattle.xl_parts.proofs.after.Kinds as after-of
+use Rattle.xl_parts.proofs.after.Reads as after
+use Rattle.xl.proofs.step.Kinds as xl-step-of
+use Rattle.xl.proofs.step.Reads as xl-step
+use Rattle.xl.proofs.receive.Kinds as xl-receive-of
+use Rattle.xl.proofs.receive.Reads as xl-receive
+use Rattle.xl.proofs.status.Kinds as xl-status-of
+use Rattle.xl.proofs.status.Reads as xl-status
+use Rattle.port_parts.proofs.no_stamp.Kinds as port-no-stamp-of
+use Rattle.port_parts.proofs.no_stamp.Reads as port-no-stamp
+use Rattle.port_parts.proofs.stamped.Kinds as port-stamped-of
+use Rattle.port_parts.proofs.stamped.Reads as port-stamped
+use Rattle.port_parts.proofs.disabled.Kinds as port-disabled-of
+use Rattle.port_parts.proofs.disabled.Reads as port-disabled
+use Rattle.port_parts.proofs.freed.Kinds as port-freed-of
+use Rattle.port_parts.proofs.freed.Reads as port-freed
+use Rattle.port_parts.proofs.is_free.Kinds as port-is-free-of
+use Rattle.port_parts.proofs.is_free.Reads as port-is-free
+use Rattle.port_parts.proofs.is_waiting.Kinds as port-is-waiting-of
+use Rattle.port_parts.proofs.is_waiting.Reads as port-is-waiting
+use Rattle.port_parts.proofs.is_in_progress.Kinds as port-is-in-progress-of
+use Rattle.port_parts.proofs.is_in_progress.Reads as port-is-in-progress
+use Rattle.port_parts.proofs.is_ssp.Kinds as port-is-ssp-of
+use Rattle.port_parts.proofs.is_ssp.Reads as port-is-ssp
+use Rattle.port_parts.proofs.slot.Kinds as port-slot-of
+use Rattle.port_parts.proofs.slot.Reads as port-slot
+use Rattle.port_parts.proofs.reached.Kinds as port-reached-of
+use Rattle.port_parts.proofs.reached.Reads as port-reached
+use Rattle.port_parts.proofs.reaches.Kinds as port-reaches-of
+use Rattle.port_parts.proofs.reaches.Reads as port-reaches
+use Rattle.port_parts.proofs.free_sets.Kinds as port-free-sets-of
+use Rattle.port_parts.proofs.free_sets.Reads as port-free-sets
+use Rattle.port_parts.proofs.way_for.Kinds as port-way-for-of
+use Rattle.port_parts.proofs.way_for.Reads as port-way-for
+use Rattle.port_parts.proofs.is_ready.Kinds as port-is-ready-of
+use Rattle.port_parts.proofs.is_ready.Reads as port-is-ready
+use Rattle.port_parts.proofs.no_pick.Kinds as port-no-pick-of
+use Rattle.port_parts.proofs.no_pick.Reads as port-no-pick
+use Rattle.port_parts.proofs.picked.Kinds as port-picked-of
+use Rattle.port_parts.proofs.picked.Reads as port-picked
+use Rattle.port_parts.proofs.earlier.Kinds as port-earlier-of
+use Rattle.port_parts.proofs.earlier.Reads as port-earlier
+use Rattle.port_parts.proofs.chosen_step.Kinds as port-chosen-step-of
+use Rattle.port_parts.proofs.chosen_step.Reads as port-chosen-step
+use Rattle.port_parts.proofs.reason_of.Kinds as port-reason-of-of
+use Rattle.port_parts.proofs.reason_of.Reads as port-reason-of
+use Rattle.port_parts.proofs.is_listed.Kinds as port-is-listed-of
+use Rattle.port_parts.proofs.is_listed.Reads as port-is-listed
+use Rattle.port_parts.proofs.is_retried.Kinds as port-is-retried-of
+use Rattle.port_parts.proofs.is_retried.Reads as port-is-retried
+use Rattle.port_parts.proofs.is_blocked.Kinds as port-is-blocked-of
+use Rattle.port_parts.proofs.is_blocked.Reads as port-is-blocked
+use Rattle.port_parts.proofs.is_starting.Kinds as port-is-starting-of
+use Rattle.port_parts.proofs.is_starting.Reads as port-is-starting
+use Rattle.port_parts.proofs.is_stopping.Kinds as port-is-stopping-of
+use Rattle.port_parts.proofs.is_stopping.Reads as port-is-stopping
+use Rattle.port_parts.proofs.timer_after.Kinds as port-timer-after-of
+use Rattle.port_parts.proofs.timer_after.Reads as port-timer-after
+use Rattle.port_parts.proofs.is_lost.Kinds as port-is-lost-of
+use Rattle.port_parts.proofs.is_lost.Reads as port-is-lost
+use Rattle.port_rules.proofs.in_range.Kinds as port-in-range-of
+use Rattle.port_rules.proofs.in_range.Reads as port-in-range
+use Rattle.port_rules.proofs.has_frame_out.Kinds as port-has-frame-out-of
+use Rattle.port_rules.proofs.has_frame_out.Reads as port-has-frame-out
+use Rattle.port_rules.proofs.port_rule.Kinds as port-port-rule-of
+use Rattle.port_rules.proofs.port_rule.Reads as port-port-rule
+use Rattle.port_rules.proofs.request_rule.Kinds as port-request-rule-of
+use Rattle.port_rules.proofs.request_rule.Reads as port-request-rule
+use Rattle.port_rules.proofs.each_step.Kinds as port-each-step-of
+use Rattle.port_rules.proofs.each_step.Reads as port-each-step
+use Rattle.port_rules.proofs.held_against.Kinds as port-held-against-of
+use Rattle.port_rules.proofs.held_against.Reads as port-held-against
+use Rattle.port_rules.proofs.apart_step.Kinds as port-apart-step-of
+use Rattle.port_rules.proofs.apart_step.Reads as port-apart-step
+use Rattle.port_core.proofs.refused.Kinds as port-refused-of
+use Rattle.port_core.proofs.refused.Reads as port-refused
+use Rattle.port_core.proofs.phy_at.Kinds as port-phy-at-of
+use Rattle.port_core.proofs.phy_at.Reads as port-phy-at
+use Rattle.port_core.proofs.timed.Kinds as port-timed-of
+use Rattle.port_core.proofs.timed.Reads as port-timed
+use Rattle.port_core.proofs.no_room.Kinds as port-no-room-of
+use Rattle.port_core.proofs.no_room.Reads as port-no-room
+use Rattle.port_core.proofs.room_step.Kinds as port-room-step-of
+use Rattle.port_core.proofs.room_step.Reads as port-room-step
+use Rattle.port_core.proofs.key_step.Kinds as port-key-step-of
+use Rattle.port_core.proofs.key_step.Reads as port-key-step
+use Rattle.port_core.proofs.no_port.Kinds as port-no-port-of
+use Rattle.port_core.proofs.no_port.Reads as port-no-port
+use Rattle.port_core.proofs.setup_core.Kinds as port-setup-core-of
+use Rattle.port_core.proofs.setup_core.Reads as port-setup-core
+use Rattle.port_core.proofs.submit_core.Kinds as port-submit-core-of
+use Rattle.port_core.proofs.submit_core.Reads as port-submit-core
+use Rattle.port_core.proofs.cancel_core.Kinds as port-cancel-core-of
+use Rattle.port_core.proofs.cancel_core.Reads as port-cancel-core
+use Rattle.port_core.proofs.choose_core.Kinds as port-choose-core-of
+use Rattle.port_core.proofs.choose_core.Reads as port-choose-core
+use Rattle.port_core.proofs.opened_core.Kinds as port-opened-core-of
+use Rattle.port_core.proofs.opened_core.Reads as port-opened-core
+use Rattle.port_core.proofs.open_failed_core.Kinds as port-open-failed-core-of
+use Rattle.port_core.proofs.open_failed_core.Reads as port-open-failed-core
+use Rattle.port_core.proofs.frame_status_core.Kinds as port-frame-status-core-of
+use Rattle.port_core.proofs.frame_status_core.Reads as port-frame-status-core
+use Rattle.port_core.proofs.closed_core.Kinds as port-closed-core-of
+use Rattle.port_core.proofs.closed_core.Reads as port-closed-core
+use Rattle.port_core.proofs.enable_core.Kinds as port-enable-core-of
+use Rattle.port_core.proofs.enable_core.Reads as port-enable-core
+use Rattle.port_core.proofs.disable_core.Kinds as port-disable-core-of
+use Rattle.port_core.proofs.disable_core.Reads as port-disable-core
 use Rattle.sonerwal.proofs.sas_open_read.Kinds as sas-open-read-of
 use Rattle.sonerwal.proofs.sas_open_read.Reads as sas-open-read
 use Rattle.sonerwal.proofs.sas_open_write.Kinds as sas-open-write-of
@@ -92,6 +206,8 @@ use Rattle.bench_steps.proofs.bench_turns.Kinds as bench-turns-of
 use Rattle.bench_steps.proofs.bench_turns.Reads as bench-turns
 use Rattle.bench_steps.proofs.bench_next.Kinds as bench-next-of
 use Rattle.bench_steps.proofs.bench_next.Reads as bench-next
+use Rattle.bench_links.proofs.bench_links.Kinds as bench-links-of
+use Rattle.bench_links.proofs.bench_links.Reads as bench-links
 
 -- a function of n lifetimes and parameters ps that asks pre of them takes anything
 abbrev Anything : (n : ℕ) (ps : List (kinds.PK n)) → kinds.In n ps → Type 0
@@ -134,6 +250,63 @@ pub record Total : Type 0 where
   pub take-line : Anything 2 take-line-of.ps take-line.Pre
   pub feed : Anything 2 feed-of.ps feed.Pre
   pub close : Anything 1 close-of.ps close.Pre
+  pub unlinked : Anything 0 unlinked-of.ps unlinked.Pre
+  pub stays : Anything 0 stays-of.ps stays.Pre
+  pub goes : Anything 0 goes-of.ps goes.Pre
+  pub after : Anything 0 after-of.ps after.Pre
+  pub xl-step : Anything 0 xl-step-of.ps xl-step.Pre
+  pub xl-receive : Anything 1 xl-receive-of.ps xl-receive.Pre
+  pub xl-status : Anything 0 xl-status-of.ps xl-status.Pre
+  pub port-no-stamp : Anything 0 port-no-stamp-of.ps port-no-stamp.Pre
+  pub port-stamped : Anything 0 port-stamped-of.ps port-stamped.Pre
+  pub port-disabled : Anything 0 port-disabled-of.ps port-disabled.Pre
+  pub port-freed : Anything 0 port-freed-of.ps port-freed.Pre
+  pub port-is-free : Anything 0 port-is-free-of.ps port-is-free.Pre
+  pub port-is-waiting : Anything 0 port-is-waiting-of.ps port-is-waiting.Pre
+  pub port-is-in-progress : Anything 0 port-is-in-progress-of.ps port-is-in-progress.Pre
+  pub port-is-ssp : Anything 0 port-is-ssp-of.ps port-is-ssp.Pre
+  pub port-slot : Anything 0 port-slot-of.ps port-slot.Pre
+  pub port-reached : Anything 0 port-reached-of.ps port-reached.Pre
+  pub port-reaches : Anything 0 port-reaches-of.ps port-reaches.Pre
+  pub port-free-sets : Anything 0 port-free-sets-of.ps port-free-sets.Pre
+  pub port-way-for : Anything 0 port-way-for-of.ps port-way-for.Pre
+  pub port-is-ready : Anything 0 port-is-ready-of.ps port-is-ready.Pre
+  pub port-no-pick : Anything 0 port-no-pick-of.ps port-no-pick.Pre
+  pub port-picked : Anything 0 port-picked-of.ps port-picked.Pre
+  pub port-earlier : Anything 0 port-earlier-of.ps port-earlier.Pre
+  pub port-chosen-step : Anything 0 port-chosen-step-of.ps port-chosen-step.Pre
+  pub port-reason-of : Anything 0 port-reason-of-of.ps port-reason-of.Pre
+  pub port-is-listed : Anything 0 port-is-listed-of.ps port-is-listed.Pre
+  pub port-is-retried : Anything 0 port-is-retried-of.ps port-is-retried.Pre
+  pub port-is-blocked : Anything 0 port-is-blocked-of.ps port-is-blocked.Pre
+  pub port-is-starting : Anything 0 port-is-starting-of.ps port-is-starting.Pre
+  pub port-is-stopping : Anything 0 port-is-stopping-of.ps port-is-stopping.Pre
+  pub port-timer-after : Anything 0 port-timer-after-of.ps port-timer-after.Pre
+  pub port-is-lost : Anything 0 port-is-lost-of.ps port-is-lost.Pre
+  pub port-in-range : Anything 0 port-in-range-of.ps port-in-range.Pre
+  pub port-has-frame-out : Anything 0 port-has-frame-out-of.ps port-has-frame-out.Pre
+  pub port-port-rule : Anything 0 port-port-rule-of.ps port-port-rule.Pre
+  pub port-request-rule : Anything 0 port-request-rule-of.ps port-request-rule.Pre
+  pub port-each-step : Anything 0 port-each-step-of.ps port-each-step.Pre
+  pub port-held-against : Anything 0 port-held-against-of.ps port-held-against.Pre
+  pub port-apart-step : Anything 0 port-apart-step-of.ps port-apart-step.Pre
+  pub port-refused : Anything 0 port-refused-of.ps port-refused.Pre
+  pub port-phy-at : Anything 0 port-phy-at-of.ps port-phy-at.Pre
+  pub port-timed : Anything 0 port-timed-of.ps port-timed.Pre
+  pub port-no-room : Anything 0 port-no-room-of.ps port-no-room.Pre
+  pub port-room-step : Anything 0 port-room-step-of.ps port-room-step.Pre
+  pub port-key-step : Anything 0 port-key-step-of.ps port-key-step.Pre
+  pub port-no-port : Anything 0 port-no-port-of.ps port-no-port.Pre
+  pub port-setup-core : Anything 0 port-setup-core-of.ps port-setup-core.Pre
+  pub port-submit-core : Anything 0 port-submit-core-of.ps port-submit-core.Pre
+  pub port-cancel-core : Anything 0 port-cancel-core-of.ps port-cancel-core.Pre
+  pub port-choose-core : Anything 0 port-choose-core-of.ps port-choose-core.Pre
+  pub port-opened-core : Anything 0 port-opened-core-of.ps port-opened-core.Pre
+  pub port-open-failed-core : Anything 0 port-open-failed-core-of.ps port-open-failed-core.Pre
+  pub port-frame-status-core : Anything 0 port-frame-status-core-of.ps port-frame-status-core.Pre
+  pub port-closed-core : Anything 0 port-closed-core-of.ps port-closed-core.Pre
+  pub port-enable-core : Anything 0 port-enable-core-of.ps port-enable-core.Pre
+  pub port-disable-core : Anything 0 port-disable-core-of.ps port-disable-core.Pre
   pub sas-open-read : Anything 10 sas-open-read-of.ps sas-open-read.Pre
   pub sas-open-write : Anything 1 sas-open-write-of.ps sas-open-write.Pre
   pub sas-data-read : Anything 7 sas-data-read-of.ps sas-data-read.Pre
@@ -142,6 +315,7 @@ pub record Total : Type 0 where
   pub bench-acks : Anything 0 bench-acks-of.ps bench-acks.Pre
   pub bench-turns : Anything 0 bench-turns-of.ps bench-turns.Pre
   pub bench-next : Anything 2 bench-next-of.ps bench-next.Pre
+  pub bench-links : Anything 1 bench-links-of.ps bench-links.Pre
 
 pub total : Total
 total = record {
@@ -181,6 +355,63 @@ total = record {
   take-line = λ κs a. tt;
   feed = λ κs a. tt;
   close = λ κs a. tt;
+  unlinked = λ κs a. tt;
+  stays = λ κs a. tt;
+  goes = λ κs a. tt;
+  after = λ κs a. tt;
+  xl-step = λ κs a. tt;
+  xl-receive = λ κs a. tt;
+  xl-status = λ κs a. tt;
+  port-no-stamp = λ κs a. tt;
+  port-stamped = λ κs a. tt;
+  port-disabled = λ κs a. tt;
+  port-freed = λ κs a. tt;
+  port-is-free = λ κs a. tt;
+  port-is-waiting = λ κs a. tt;
+  port-is-in-progress = λ κs a. tt;
+  port-is-ssp = λ κs a. tt;
+  port-slot = λ κs a. tt;
+  port-reached = λ κs a. tt;
+  port-reaches = λ κs a. tt;
+  port-free-sets = λ κs a. tt;
+  port-way-for = λ κs a. tt;
+  port-is-ready = λ κs a. tt;
+  port-no-pick = λ κs a. tt;
+  port-picked = λ κs a. tt;
+  port-earlier = λ κs a. tt;
+  port-chosen-step = λ κs a. tt;
+  port-reason-of = λ κs a. tt;
+  port-is-listed = λ κs a. tt;
+  port-is-retried = λ κs a. tt;
+  port-is-blocked = λ κs a. tt;
+  port-is-starting = λ κs a. tt;
+  port-is-stopping = λ κs a. tt;
+  port-timer-after = λ κs a. tt;
+  port-is-lost = λ κs a. tt;
+  port-in-range = λ κs a. tt;
+  port-has-frame-out = λ κs a. tt;
+  port-port-rule = λ κs a. tt;
+  port-request-rule = λ κs a. tt;
+  port-each-step = λ κs a. tt;
+  port-held-against = λ κs a. tt;
+  port-apart-step = λ κs a. tt;
+  port-refused = λ κs a. tt;
+  port-phy-at = λ κs a. tt;
+  port-timed = λ κs a. tt;
+  port-no-room = λ κs a. tt;
+  port-room-step = λ κs a. tt;
+  port-key-step = λ κs a. tt;
+  port-no-port = λ κs a. tt;
+  port-setup-core = λ κs a. tt;
+  port-submit-core = λ κs a. tt;
+  port-cancel-core = λ κs a. tt;
+  port-choose-core = λ κs a. tt;
+  port-opened-core = λ κs a. tt;
+  port-open-failed-core = λ κs a. tt;
+  port-frame-status-core = λ κs a. tt;
+  port-closed-core = λ κs a. tt;
+  port-enable-core = λ κs a. tt;
+  port-disable-core = λ κs a. tt;
   sas-open-read = λ κs a. tt;
   sas-open-write = λ κs a. tt;
   sas-data-read = λ κs a. tt;
@@ -189,4 +420,5 @@ total = record {
   bench-acks = λ κs a. tt;
   bench-turns = λ κs a. tt;
   bench-next = λ κs a. tt;
+  bench-links = λ κs a. tt;
 }

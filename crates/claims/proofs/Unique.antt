@@ -83,6 +83,131 @@ use Rattle.runs.proofs.feed.Kinds as feed-of
 use Rattle.runs.proofs.feed.Reads as feed
 use Rattle.runs.proofs.close.Kinds as close-of
 use Rattle.runs.proofs.close.Reads as close
+use Rattle.xl_parts.proofs.unlinked.Kinds as unlinked-of
+use Rattle.xl_parts.proofs.unlinked.Reads as unlinked
+use Rattle.xl_parts.proofs.stays.Kinds as stays-of
+use Rattle.xl_parts.proofs.stays.Reads as stays
+use Rattle.xl_parts.proofs.goes.Kinds as goes-of
+use Rattle.xl_parts.proofs.goes.Reads as goes
+use Rattle.xl_parts.proofs.after.Kinds as after-of
+use Rattle.xl_parts.proofs.after.Reads as after
+use Rattle.xl.proofs.step.Kinds as xl-step-of
+use Rattle.xl.proofs.step.Reads as xl-step
+use Rattle.xl.proofs.receive.Kinds as xl-receive-of
+use Rattle.xl.proofs.receive.Reads as xl-receive
+use Rattle.xl.proofs.status.Kinds as xl-status-of
+use Rattle.xl.proofs.status.Reads as xl-status
+use Rattle.port_parts.proofs.no_stamp.Kinds as port-no-stamp-of
+use Rattle.port_parts.proofs.no_stamp.Reads as port-no-stamp
+use Rattle.port_parts.proofs.stamped.Kinds as port-stamped-of
+use Rattle.port_parts.proofs.stamped.Reads as port-stamped
+use Rattle.port_parts.proofs.disabled.Kinds as port-disabled-of
+use Rattle.port_parts.proofs.disabled.Reads as port-disabled
+use Rattle.port_parts.proofs.freed.Kinds as port-freed-of
+use Rattle.port_parts.proofs.freed.Reads as port-freed
+use Rattle.port_parts.proofs.is_free.Kinds as port-is-free-of
+use Rattle.port_parts.proofs.is_free.Reads as port-is-free
+use Rattle.port_parts.proofs.is_waiting.Kinds as port-is-waiting-of
+use Rattle.port_parts.proofs.is_waiting.Reads as port-is-waiting
+use Rattle.port_parts.proofs.is_in_progress.Kinds as port-is-in-progress-of
+use Rattle.port_parts.proofs.is_in_progress.Reads as port-is-in-progress
+use Rattle.port_parts.proofs.is_ssp.Kinds as port-is-ssp-of
+use Rattle.port_parts.proofs.is_ssp.Reads as port-is-ssp
+use Rattle.port_parts.proofs.slot.Kinds as port-slot-of
+use Rattle.port_parts.proofs.slot.Reads as port-slot
+use Rattle.port_parts.proofs.reached.Kinds as port-reached-of
+use Rattle.port_parts.proofs.reached.Reads as port-reached
+use Rattle.port_parts.proofs.reaches.Kinds as port-reaches-of
+use Rattle.port_parts.proofs.reaches.Reads as port-reaches
+use Rattle.port_parts.proofs.free_sets.Kinds as port-free-sets-of
+use Rattle.port_parts.proofs.free_sets.Reads as port-free-sets
+use Rattle.port_parts.proofs.way_for.Kinds as port-way-for-of
+use Rattle.port_parts.proofs.way_for.Reads as port-way-for
+use Rattle.port_parts.proofs.is_ready.Kinds as port-is-ready-of
+use Rattle.port_parts.proofs.is_ready.Reads as port-is-ready
+use Rattle.port_parts.proofs.no_pick.Kinds as port-no-pick-of
+use Rattle.port_parts.proofs.no_pick.Reads as port-no-pick
+use Rattle.port_parts.proofs.picked.Kinds as port-picked-of
+use Rattle.port_parts.proofs.picked.Reads as port-picked
+use Rattle.port_parts.proofs.earlier.Kinds as port-earlier-of
+use Rattle.port_parts.proofs.earlier.Reads as port-earlier
+use Rattle.port_parts.proofs.chosen_step.Kinds as port-chosen-step-of
+use Rattle.port_parts.proofs.chosen_step.Reads as port-chosen-step
+use Rattle.port_parts.proofs.reason_of.Kinds as port-reason-of-of
+use Rattle.port_parts.proofs.reason_of.Reads as port-reason-of
+use Rattle.port_parts.proofs.is_listed.Kinds as port-is-listed-of
+use Rattle.port_parts.proofs.is_listed.Reads as port-is-listed
+use Rattle.port_parts.proofs.is_retried.Kinds as port-is-retried-of
+use Rattle.port_parts.proofs.is_retried.Reads as port-is-retried
+use Rattle.port_parts.proofs.is_blocked.Kinds as port-is-blocked-of
+use Rattle.port_parts.proofs.is_blocked.Reads as port-is-blocked
+use Rattle.port_parts.proofs.is_starting.Kinds as port-is-starting-of
+use Rattle.port_parts.proofs.is_starting.Reads as port-is-starting
+use Rattle.port_parts.proofs.is_stopping.Kinds as port-is-stopping-of
+use Rattle.port_parts.proofs.is_stopping.Reads as port-is-stopping
+use Rattle.port_parts.proofs.timer_after.Kinds as port-timer-after-of
+use Rattle.port_parts.proofs.timer_after.Reads as port-timer-after
+use Rattle.port_parts.proofs.is_lost.Kinds as port-is-lost-of
+use Rattle.port_parts.proofs.is_lost.Reads as port-is-lost
+use Rattle.port_rules.proofs.in_range.Kinds as port-in-range-of
+use Rattle.port_rules.proofs.in_range.Reads as port-in-range
+use Rattle.port_rules.proofs.has_frame_out.Kinds as port-has-frame-out-of
+use Rattle.port_rules.proofs.has_frame_out.Reads as port-has-frame-out
+use Rattle.port_rules.proofs.port_rule.Kinds as port-port-rule-of
+use Rattle.port_rules.proofs.port_rule.Reads as port-port-rule
+use Rattle.port_rules.proofs.request_rule.Kinds as port-request-rule-of
+use Rattle.port_rules.proofs.request_rule.Reads as port-request-rule
+use Rattle.port_rules.proofs.each_step.Kinds as port-each-step-of
+use Rattle.port_rules.proofs.each_step.Reads as port-each-step
+use Rattle.port_rules.proofs.held_against.Kinds as port-held-against-of
+use Rattle.port_rules.proofs.held_against.Reads as port-held-against
+use Rattle.port_rules.proofs.apart_step.Kinds as port-apart-step-of
+use Rattle.port_rules.proofs.apart_step.Reads as port-apart-step
+use Rattle.port_core.proofs.refused.Kinds as port-refused-of
+use Rattle.port_core.proofs.refused.Reads as port-refused
+use Rattle.port_core.proofs.phy_at.Kinds as port-phy-at-of
+use Rattle.port_core.proofs.phy_at.Reads as port-phy-at
+use Rattle.port_core.proofs.timed.Kinds as port-timed-of
+use Rattle.port_core.proofs.timed.Reads as port-timed
+use Rattle.port_core.proofs.no_room.Kinds as port-no-room-of
+use Rattle.port_core.proofs.no_room.Reads as port-no-room
+use Rattle.port_core.proofs.room_step.Kinds as port-room-step-of
+use Rattle.port_core.proofs.room_step.Reads as port-room-step
+use Rattle.port_core.proofs.key_step.Kinds as port-key-step-of
+use Rattle.port_core.proofs.key_step.Reads as port-key-step
+use Rattle.port_core.proofs.no_port.Kinds as port-no-port-of
+use Rattle.port_core.proofs.no_port.Reads as port-no-port
+use Rattle.port_core.proofs.setup_core.Kinds as port-setup-core-of
+use Rattle.port_core.proofs.setup_core.Reads as port-setup-core
+use Rattle.port_core.proofs.submit_core.Kinds as port-submit-core-of
+use Rattle.port_core.proofs.submit_core.Reads as port-submit-core
+use Rattle.port_core.proofs.cancel_core.Kinds as port-cancel-core-of
+use Rattle.port_core.proofs.cancel_core.Reads as port-cancel-core
+use Rattle.port_core.proofs.choose_core.Kinds as port-choose-core-of
+use Rattle.port_core.proofs.choose_core.Reads as port-choose-core
+use Rattle.port_core.proofs.opened_core.Kinds as port-opened-core-of
+use Rattle.port_core.proofs.opened_core.Reads as port-opened-core
+use Rattle.port_core.proofs.open_failed_core.Kinds as port-open-failed-core-of
+use Rattle.port_core.proofs.open_failed_core.Reads as port-open-failed-core
+use Rattle.port_core.proofs.frame_status_core.Kinds as port-frame-status-core-of
+use Rattle.port_core.proofs.frame_status_core.Reads as port-frame-status-core
+use Rattle.port_core.proofs.closed_core.Kinds as port-closed-core-of
+use Rattle.port_core.proofs.closed_core.Reads as port-closed-core
+use Rattle.port_core.proofs.enable_core.Kinds as port-enable-core-of
+use Rattle.port_core.proofs.enable_core.Reads as port-enable-core
+use Rattle.port_core.proofs.disable_core.Kinds as port-disable-core-of
+use Rattle.port_core.proofs.disable_core.Reads as port-disable-core
+use Rattle.port_parts.specs.declared.Port.{Port}
+use Rattle.port_parts.specs.declared.Request.{Request}
+use Rattle.port_core.specs.declared.Wish.{Wish}
+use Rattle.port_core.specs.declared.Withdrawn.{Withdrawn}
+use Rattle.port_core.specs.declared.Confirmed.{Confirmed}
+use Rattle.port_core.specs.declared.Failure.{Failure}
+use Rattle.port_core.specs.declared.Report.{Report}
+use Rattle.port_core.specs.declared.Done.{Done}
+use Rattle.port.specs.declared.Moment.{Moment}
+use Rattle.port.specs.declared.Stepped.{Stepped}
+use Rattle.port.specs.Calls.{short, shortSetup, Called, setupCall, submitCall, cancelCall, chooseCall, openedCall, openFailedCall, frameStatusCall, closedCall, enableCall, disableCall}
 use Rattle.sonerwal.proofs.sas_open_read.Kinds as sas-open-read-of
 use Rattle.sonerwal.proofs.sas_open_read.Reads as sas-open-read
 use Rattle.sonerwal.proofs.sas_open_write.Kinds as sas-open-write-of
@@ -99,6 +224,8 @@ use Rattle.bench_steps.proofs.bench_turns.Kinds as bench-turns-of
 use Rattle.bench_steps.proofs.bench_turns.Reads as bench-turns
 use Rattle.bench_steps.proofs.bench_next.Kinds as bench-next-of
 use Rattle.bench_steps.proofs.bench_next.Reads as bench-next
+use Rattle.bench_links.proofs.bench_links.Kinds as bench-links-of
+use Rattle.bench_links.proofs.bench_links.Reads as bench-links
 
 -- a function of n lifetimes, parameters ps and result r has one outcome: its answer, and what `left` reads of the lent at exit
 abbrev One : (n : ℕ) (ps : List (kinds.PK n)) (r : kinds.RK n) {L : Type 0} → ((κs : Lifetimes.Lfts n) → Clauses.AtExit (kinds.endedOf n ps r) κs → L) → kinds.Out n ps r → Type 0
@@ -153,6 +280,10 @@ sas-data-write-left κs s = now (s .1 .1 .1 .1 .1 .1 .0)
 abbrev bench-next-left : (κs : Lifetimes.Lfts 2) → Clauses.AtExit (kinds.endedOf 2 bench-next-of.ps bench-next-of.r) κs → List ℕ
 bench-next-left κs s = now (s .1 .1 .1 .1 .1 .1 .1 .1 .1 .0)
 
+-- a call of the port over a lent list leaves one answer, one port and one list: its promise is literally this record
+abbrev OneCall : (List Request → Done) → Stepped → Type 0
+OneCall does none = (l : List Request) (r r' : Stepped) (after after' : List Request) → Called l (does l) none r after → Called l (does l) none r' after' → (r ≡ r') × (after ≡ after')
+
 -- 01 PROMISE.1: Each public function's promise determines its answer, new state and each lent byte, on refusals too.
 -- 01 PROMISE.2: Prove that it admits no second answer; list exceptions in docs/ and why.
 -- 01 READ.4
@@ -193,6 +324,73 @@ pub record Unique : Type 0 where
   pub take-line : One 2 take-line-of.ps take-line-of.r take-line-left take-line.Post
   pub feed : One 2 feed-of.ps feed-of.r feed-left feed.Post
   pub close : One 1 close-of.ps close-of.r close-left close.Post
+  pub unlinked : One 0 unlinked-of.ps unlinked-of.r (none 0 unlinked-of.ps unlinked-of.r) unlinked.Post
+  pub stays : One 0 stays-of.ps stays-of.r (none 0 stays-of.ps stays-of.r) stays.Post
+  pub goes : One 0 goes-of.ps goes-of.r (none 0 goes-of.ps goes-of.r) goes.Post
+  pub after : One 0 after-of.ps after-of.r (none 0 after-of.ps after-of.r) after.Post
+  pub xl-step : One 0 xl-step-of.ps xl-step-of.r (none 0 xl-step-of.ps xl-step-of.r) xl-step.Post
+  pub xl-receive : One 1 xl-receive-of.ps xl-receive-of.r (none 1 xl-receive-of.ps xl-receive-of.r) xl-receive.Post
+  pub xl-status : One 0 xl-status-of.ps xl-status-of.r (none 0 xl-status-of.ps xl-status-of.r) xl-status.Post
+  pub port-no-stamp : One 0 port-no-stamp-of.ps port-no-stamp-of.r (none 0 port-no-stamp-of.ps port-no-stamp-of.r) port-no-stamp.Post
+  pub port-stamped : One 0 port-stamped-of.ps port-stamped-of.r (none 0 port-stamped-of.ps port-stamped-of.r) port-stamped.Post
+  pub port-disabled : One 0 port-disabled-of.ps port-disabled-of.r (none 0 port-disabled-of.ps port-disabled-of.r) port-disabled.Post
+  pub port-freed : One 0 port-freed-of.ps port-freed-of.r (none 0 port-freed-of.ps port-freed-of.r) port-freed.Post
+  pub port-is-free : One 0 port-is-free-of.ps port-is-free-of.r (none 0 port-is-free-of.ps port-is-free-of.r) port-is-free.Post
+  pub port-is-waiting : One 0 port-is-waiting-of.ps port-is-waiting-of.r (none 0 port-is-waiting-of.ps port-is-waiting-of.r) port-is-waiting.Post
+  pub port-is-in-progress : One 0 port-is-in-progress-of.ps port-is-in-progress-of.r (none 0 port-is-in-progress-of.ps port-is-in-progress-of.r) port-is-in-progress.Post
+  pub port-is-ssp : One 0 port-is-ssp-of.ps port-is-ssp-of.r (none 0 port-is-ssp-of.ps port-is-ssp-of.r) port-is-ssp.Post
+  pub port-slot : One 0 port-slot-of.ps port-slot-of.r (none 0 port-slot-of.ps port-slot-of.r) port-slot.Post
+  pub port-reached : One 0 port-reached-of.ps port-reached-of.r (none 0 port-reached-of.ps port-reached-of.r) port-reached.Post
+  pub port-reaches : One 0 port-reaches-of.ps port-reaches-of.r (none 0 port-reaches-of.ps port-reaches-of.r) port-reaches.Post
+  pub port-free-sets : One 0 port-free-sets-of.ps port-free-sets-of.r (none 0 port-free-sets-of.ps port-free-sets-of.r) port-free-sets.Post
+  pub port-way-for : One 0 port-way-for-of.ps port-way-for-of.r (none 0 port-way-for-of.ps port-way-for-of.r) port-way-for.Post
+  pub port-is-ready : One 0 port-is-ready-of.ps port-is-ready-of.r (none 0 port-is-ready-of.ps port-is-ready-of.r) port-is-ready.Post
+  pub port-no-pick : One 0 port-no-pick-of.ps port-no-pick-of.r (none 0 port-no-pick-of.ps port-no-pick-of.r) port-no-pick.Post
+  pub port-picked : One 0 port-picked-of.ps port-picked-of.r (none 0 port-picked-of.ps port-picked-of.r) port-picked.Post
+  pub port-earlier : One 0 port-earlier-of.ps port-earlier-of.r (none 0 port-earlier-of.ps port-earlier-of.r) port-earlier.Post
+  pub port-chosen-step : One 0 port-chosen-step-of.ps port-chosen-step-of.r (none 0 port-chosen-step-of.ps port-chosen-step-of.r) port-chosen-step.Post
+  pub port-reason-of : One 0 port-reason-of-of.ps port-reason-of-of.r (none 0 port-reason-of-of.ps port-reason-of-of.r) port-reason-of.Post
+  pub port-is-listed : One 0 port-is-listed-of.ps port-is-listed-of.r (none 0 port-is-listed-of.ps port-is-listed-of.r) port-is-listed.Post
+  pub port-is-retried : One 0 port-is-retried-of.ps port-is-retried-of.r (none 0 port-is-retried-of.ps port-is-retried-of.r) port-is-retried.Post
+  pub port-is-blocked : One 0 port-is-blocked-of.ps port-is-blocked-of.r (none 0 port-is-blocked-of.ps port-is-blocked-of.r) port-is-blocked.Post
+  pub port-is-starting : One 0 port-is-starting-of.ps port-is-starting-of.r (none 0 port-is-starting-of.ps port-is-starting-of.r) port-is-starting.Post
+  pub port-is-stopping : One 0 port-is-stopping-of.ps port-is-stopping-of.r (none 0 port-is-stopping-of.ps port-is-stopping-of.r) port-is-stopping.Post
+  pub port-timer-after : One 0 port-timer-after-of.ps port-timer-after-of.r (none 0 port-timer-after-of.ps port-timer-after-of.r) port-timer-after.Post
+  pub port-is-lost : One 0 port-is-lost-of.ps port-is-lost-of.r (none 0 port-is-lost-of.ps port-is-lost-of.r) port-is-lost.Post
+  pub port-in-range : One 0 port-in-range-of.ps port-in-range-of.r (none 0 port-in-range-of.ps port-in-range-of.r) port-in-range.Post
+  pub port-has-frame-out : One 0 port-has-frame-out-of.ps port-has-frame-out-of.r (none 0 port-has-frame-out-of.ps port-has-frame-out-of.r) port-has-frame-out.Post
+  pub port-port-rule : One 0 port-port-rule-of.ps port-port-rule-of.r (none 0 port-port-rule-of.ps port-port-rule-of.r) port-port-rule.Post
+  pub port-request-rule : One 0 port-request-rule-of.ps port-request-rule-of.r (none 0 port-request-rule-of.ps port-request-rule-of.r) port-request-rule.Post
+  pub port-each-step : One 0 port-each-step-of.ps port-each-step-of.r (none 0 port-each-step-of.ps port-each-step-of.r) port-each-step.Post
+  pub port-held-against : One 0 port-held-against-of.ps port-held-against-of.r (none 0 port-held-against-of.ps port-held-against-of.r) port-held-against.Post
+  pub port-apart-step : One 0 port-apart-step-of.ps port-apart-step-of.r (none 0 port-apart-step-of.ps port-apart-step-of.r) port-apart-step.Post
+  pub port-refused : One 0 port-refused-of.ps port-refused-of.r (none 0 port-refused-of.ps port-refused-of.r) port-refused.Post
+  pub port-phy-at : One 0 port-phy-at-of.ps port-phy-at-of.r (none 0 port-phy-at-of.ps port-phy-at-of.r) port-phy-at.Post
+  pub port-timed : One 0 port-timed-of.ps port-timed-of.r (none 0 port-timed-of.ps port-timed-of.r) port-timed.Post
+  pub port-no-room : One 0 port-no-room-of.ps port-no-room-of.r (none 0 port-no-room-of.ps port-no-room-of.r) port-no-room.Post
+  pub port-room-step : One 0 port-room-step-of.ps port-room-step-of.r (none 0 port-room-step-of.ps port-room-step-of.r) port-room-step.Post
+  pub port-key-step : One 0 port-key-step-of.ps port-key-step-of.r (none 0 port-key-step-of.ps port-key-step-of.r) port-key-step.Post
+  pub port-no-port : One 0 port-no-port-of.ps port-no-port-of.r (none 0 port-no-port-of.ps port-no-port-of.r) port-no-port.Post
+  pub port-setup-core : One 0 port-setup-core-of.ps port-setup-core-of.r (none 0 port-setup-core-of.ps port-setup-core-of.r) port-setup-core.Post
+  pub port-submit-core : One 0 port-submit-core-of.ps port-submit-core-of.r (none 0 port-submit-core-of.ps port-submit-core-of.r) port-submit-core.Post
+  pub port-cancel-core : One 0 port-cancel-core-of.ps port-cancel-core-of.r (none 0 port-cancel-core-of.ps port-cancel-core-of.r) port-cancel-core.Post
+  pub port-choose-core : One 0 port-choose-core-of.ps port-choose-core-of.r (none 0 port-choose-core-of.ps port-choose-core-of.r) port-choose-core.Post
+  pub port-opened-core : One 0 port-opened-core-of.ps port-opened-core-of.r (none 0 port-opened-core-of.ps port-opened-core-of.r) port-opened-core.Post
+  pub port-open-failed-core : One 0 port-open-failed-core-of.ps port-open-failed-core-of.r (none 0 port-open-failed-core-of.ps port-open-failed-core-of.r) port-open-failed-core.Post
+  pub port-frame-status-core : One 0 port-frame-status-core-of.ps port-frame-status-core-of.r (none 0 port-frame-status-core-of.ps port-frame-status-core-of.r) port-frame-status-core.Post
+  pub port-closed-core : One 0 port-closed-core-of.ps port-closed-core-of.r (none 0 port-closed-core-of.ps port-closed-core-of.r) port-closed-core.Post
+  pub port-enable-core : One 0 port-enable-core-of.ps port-enable-core-of.r (none 0 port-enable-core-of.ps port-enable-core-of.r) port-enable-core.Post
+  pub port-disable-core : One 0 port-disable-core-of.ps port-disable-core-of.r (none 0 port-disable-core-of.ps port-disable-core-of.r) port-disable-core.Post
+  pub call-setup : (count loss : ℕ) → OneCall (λ l. setupCall l count loss) (shortSetup count)
+  pub call-submit : (p : Port) (x : Wish) → OneCall (λ l. submitCall l p x) (short p)
+  pub call-cancel : (p : Port) (x : Withdrawn) → OneCall (λ l. cancelCall l p x) (short p)
+  pub call-choose : (p : Port) (x : Moment) → OneCall (λ l. chooseCall l p x) (short p)
+  pub call-opened : (p : Port) (x : Confirmed) → OneCall (λ l. openedCall l p x) (short p)
+  pub call-open-failed : (p : Port) (x : Failure) → OneCall (λ l. openFailedCall l p x) (short p)
+  pub call-frame-status : (p : Port) (x : Report) → OneCall (λ l. frameStatusCall l p x) (short p)
+  pub call-closed : (p : Port) (x : Confirmed) → OneCall (λ l. closedCall l p x) (short p)
+  pub call-enable : (p : Port) (x : Confirmed) → OneCall (λ l. enableCall l p x) (short p)
+  pub call-disable : (p : Port) (x : Confirmed) → OneCall (λ l. disableCall l p x) (short p)
   pub sas-open-read : One 10 sas-open-read-of.ps sas-open-read-of.r sas-open-read-left sas-open-read.Post
   pub sas-open-write : One 1 sas-open-write-of.ps sas-open-write-of.r sas-open-write-left sas-open-write.Post
   pub sas-data-read : One 7 sas-data-read-of.ps sas-data-read-of.r sas-data-read-left sas-data-read.Post
@@ -201,6 +399,7 @@ pub record Unique : Type 0 where
   pub bench-acks : One 0 bench-acks-of.ps bench-acks-of.r (none 0 bench-acks-of.ps bench-acks-of.r) bench-acks.Post
   pub bench-turns : One 0 bench-turns-of.ps bench-turns-of.r (none 0 bench-turns-of.ps bench-turns-of.r) bench-turns.Post
   pub bench-next : One 2 bench-next-of.ps bench-next-of.r bench-next-left bench-next.Post
+  pub bench-links : One 1 bench-links-of.ps bench-links-of.r (none 1 bench-links-of.ps bench-links-of.r) bench-links.Post
 
 pub unique : Unique
 unique = record {
@@ -240,6 +439,73 @@ unique = record {
   take-line = λ κs a x y s t p q. (λ i. record { state = (p .state ∙ sym (q .state)) i; place = (p .bytes .place ∙ sym (q .bytes .place)) i }, p .bytes .bytes ∙ sym (q .bytes .bytes));
   feed = λ κs a x y s t p q. (p .answer ∙ sym (q .answer), p .bytes ∙ sym (q .bytes));
   close = λ κs a x y s t p q. (p .answer ∙ sym (q .answer), p .bytes ∙ sym (q .bytes));
+  unlinked = λ κs a x y s t p q. (p ∙ sym q, refl);
+  stays = λ κs a x y s t p q. (p ∙ sym q, refl);
+  goes = λ κs a x y s t p q. (p ∙ sym q, refl);
+  after = λ κs a x y s t p q. (p ∙ sym q, refl);
+  xl-step = λ κs a x y s t p q. (p ∙ sym q, refl);
+  xl-receive = λ κs a x y s t p q. (p ∙ sym q, refl);
+  xl-status = λ κs a x y s t p q. (p ∙ sym q, refl);
+  port-no-stamp = λ κs a x y s t p q. (p ∙ sym q, refl);
+  port-stamped = λ κs a x y s t p q. (p ∙ sym q, refl);
+  port-disabled = λ κs a x y s t p q. (p ∙ sym q, refl);
+  port-freed = λ κs a x y s t p q. (p ∙ sym q, refl);
+  port-is-free = λ κs a x y s t p q. (p ∙ sym q, refl);
+  port-is-waiting = λ κs a x y s t p q. (p ∙ sym q, refl);
+  port-is-in-progress = λ κs a x y s t p q. (p ∙ sym q, refl);
+  port-is-ssp = λ κs a x y s t p q. (p ∙ sym q, refl);
+  port-slot = λ κs a x y s t p q. (p ∙ sym q, refl);
+  port-reached = λ κs a x y s t p q. (p ∙ sym q, refl);
+  port-reaches = λ κs a x y s t p q. (p ∙ sym q, refl);
+  port-free-sets = λ κs a x y s t p q. (p ∙ sym q, refl);
+  port-way-for = λ κs a x y s t p q. (p ∙ sym q, refl);
+  port-is-ready = λ κs a x y s t p q. (p ∙ sym q, refl);
+  port-no-pick = λ κs a x y s t p q. (p ∙ sym q, refl);
+  port-picked = λ κs a x y s t p q. (p ∙ sym q, refl);
+  port-earlier = λ κs a x y s t p q. (p ∙ sym q, refl);
+  port-chosen-step = λ κs a x y s t p q. (p ∙ sym q, refl);
+  port-reason-of = λ κs a x y s t p q. (p ∙ sym q, refl);
+  port-is-listed = λ κs a x y s t p q. (p ∙ sym q, refl);
+  port-is-retried = λ κs a x y s t p q. (p ∙ sym q, refl);
+  port-is-blocked = λ κs a x y s t p q. (p ∙ sym q, refl);
+  port-is-starting = λ κs a x y s t p q. (p ∙ sym q, refl);
+  port-is-stopping = λ κs a x y s t p q. (p ∙ sym q, refl);
+  port-timer-after = λ κs a x y s t p q. (p ∙ sym q, refl);
+  port-is-lost = λ κs a x y s t p q. (p ∙ sym q, refl);
+  port-in-range = λ κs a x y s t p q. (p ∙ sym q, refl);
+  port-has-frame-out = λ κs a x y s t p q. (p ∙ sym q, refl);
+  port-port-rule = λ κs a x y s t p q. (p ∙ sym q, refl);
+  port-request-rule = λ κs a x y s t p q. (p ∙ sym q, refl);
+  port-each-step = λ κs a x y s t p q. (p ∙ sym q, refl);
+  port-held-against = λ κs a x y s t p q. (p ∙ sym q, refl);
+  port-apart-step = λ κs a x y s t p q. (p ∙ sym q, refl);
+  port-refused = λ κs a x y s t p q. (p ∙ sym q, refl);
+  port-phy-at = λ κs a x y s t p q. (p ∙ sym q, refl);
+  port-timed = λ κs a x y s t p q. (p ∙ sym q, refl);
+  port-no-room = λ κs a x y s t p q. (p ∙ sym q, refl);
+  port-room-step = λ κs a x y s t p q. (p ∙ sym q, refl);
+  port-key-step = λ κs a x y s t p q. (p ∙ sym q, refl);
+  port-no-port = λ κs a x y s t p q. (p ∙ sym q, refl);
+  port-setup-core = λ κs a x y s t p q. (p ∙ sym q, refl);
+  port-submit-core = λ κs a x y s t p q. (p ∙ sym q, refl);
+  port-cancel-core = λ κs a x y s t p q. (p ∙ sym q, refl);
+  port-choose-core = λ κs a x y s t p q. (p ∙ sym q, refl);
+  port-opened-core = λ κs a x y s t p q. (p ∙ sym q, refl);
+  port-open-failed-core = λ κs a x y s t p q. (p ∙ sym q, refl);
+  port-frame-status-core = λ κs a x y s t p q. (p ∙ sym q, refl);
+  port-closed-core = λ κs a x y s t p q. (p ∙ sym q, refl);
+  port-enable-core = λ κs a x y s t p q. (p ∙ sym q, refl);
+  port-disable-core = λ κs a x y s t p q. (p ∙ sym q, refl);
+  call-setup = λ count loss l r r' after after' c d. (c .0 ∙ sym (d .0), c .1 ∙ sym (d .1));
+  call-submit = λ p x l r r' after after' c d. (c .0 ∙ sym (d .0), c .1 ∙ sym (d .1));
+  call-cancel = λ p x l r r' after after' c d. (c .0 ∙ sym (d .0), c .1 ∙ sym (d .1));
+  call-choose = λ p x l r r' after after' c d. (c .0 ∙ sym (d .0), c .1 ∙ sym (d .1));
+  call-opened = λ p x l r r' after after' c d. (c .0 ∙ sym (d .0), c .1 ∙ sym (d .1));
+  call-open-failed = λ p x l r r' after after' c d. (c .0 ∙ sym (d .0), c .1 ∙ sym (d .1));
+  call-frame-status = λ p x l r r' after after' c d. (c .0 ∙ sym (d .0), c .1 ∙ sym (d .1));
+  call-closed = λ p x l r r' after after' c d. (c .0 ∙ sym (d .0), c .1 ∙ sym (d .1));
+  call-enable = λ p x l r r' after after' c d. (c .0 ∙ sym (d .0), c .1 ∙ sym (d .1));
+  call-disable = λ p x l r r' after after' c d. (c .0 ∙ sym (d .0), c .1 ∙ sym (d .1));
   sas-open-read = λ κs a x y s t p q. (p .answer ∙ sym (q .answer), p .lent ∙ sym (q .lent));
   sas-open-write = λ κs a x y s t p q. (p .answer ∙ sym (q .answer), p .lent ∙ sym (q .lent));
   sas-data-read = λ κs a x y s t p q. (p .answer ∙ sym (q .answer), p .lent ∙ sym (q .lent));
@@ -248,4 +514,5 @@ unique = record {
   bench-acks = λ κs a x y s t p q. (p ∙ sym q, refl);
   bench-turns = λ κs a x y s t p q. (p ∙ sym q, refl);
   bench-next = λ κs a x y s t p q. (p .answer ∙ sym (q .answer), p .bytes ∙ sym (q .bytes));
+  bench-links = λ κs a x y s t p q. (p ∙ sym q, refl);
 }

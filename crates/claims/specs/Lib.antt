@@ -1,2 +1,3 @@
 -- What the claims say in words of their own.
 pub mod Causes
+pub mod Links

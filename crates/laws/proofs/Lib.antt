@@ -3,3 +3,9 @@ pub mod Bits
 pub mod Bools
 pub mod Lists
 pub mod Order
+pub mod Rest
+pub mod Sets
+pub mod Tests
+pub mod Folds
+pub mod Finds
+pub mod Maps

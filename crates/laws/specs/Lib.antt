@@ -1,2 +1,4 @@
 -- Definitions that name no SAS word.
 pub mod Order
+pub mod Sets
+pub mod Folds

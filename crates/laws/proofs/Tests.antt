@@ -1,11 +1,11 @@
 -- A joined test says what its parts say, joined. Assumes nothing.
 use Prim.Native.Nat.{ℕ, _≤_, _<_}
-use mathlib.Core.Path.{_≡_, refl}
+use mathlib.Core.Path.{_≡_, refl, sym, _∙_}
 use mathlib.Core.Bool.{Bool, true, false, not, _&&_, _||_}
 use mathlib.Core.Logic.{_⊎_, inl, inr, ⊎-elim, _↔_}
 use lib.Dec.{ltb, leb, eqb}
 use borrow.Author.Tests.{ltb-true, leb-true, eqb-true, lt-ltb, le-leb, eq-eqb, not-true}
-use Rattle.laws.proofs.Bools.{and-left, and-right, and-true}
+use Rattle.laws.proofs.Bools.{never, and-left, and-right, and-true}
 
 -- the test t is passed exactly if P
 abbrev pub Says : Bool → Type 0 → Type 0
@@ -43,6 +43,37 @@ module _ {a b : Bool} {P Q : Type 0} (p : Says a P) (q : Says b Q) where
     λ e. ⊎-elim (λ x. inl (p .0 x)) (λ y. inr (q .0 y)) (or-cases a b e),
     ⊎-elim (λ (h : P). λ i. p .1 h i || b) (λ h. or-right a b (q .1 h)),
   )
+
+  -- where the first says so the second does
+  pub implies : Says (not a || b) (P → Q)
+  implies = (
+    λ e h. q .0 (passed a b (p .1 h) e),
+    λ (h : P → Q). by a b (λ e. q .1 (h (p .0 e))),
+  )
+    where
+      passed : (a b : Bool) → a ≡ true → not a || b ≡ true → b ≡ true
+      passed true b d e = e
+      passed false b d e = absurd (never d)
+
+      by : (a b : Bool) → (a ≡ true → b ≡ true) → not a || b ≡ true
+      by true b h = h refl
+      by false b h = refl
+
+-- where the first doesn't say so the second does
+pub failing : {a b : Bool} {P Q : Type 0} → Says a P → Says b Q → Says (a || b) ((P → ⊥) → Q)
+failing {a} {b} {P} {Q} p q = (λ e off. ⊎-elim (λ x. absurd (off (p .0 x))) (q .0) (or-cases a b e), λ hold. by a refl hold)
+  where
+    by : (t : Bool) → a ≡ t → ((P → ⊥) → Q) → t || b ≡ true
+    by true e hold = refl
+    by false e hold = q .1 (hold (λ h. never (sym e ∙ p .1 h)))
+
+-- a test negated says the contrary
+pub unless : {a : Bool} {P : Type 0} → Says a P → Says (not a) (P → ⊥)
+unless {a} p = (λ e h. never (sym (not-true a e) ∙ p .1 h), λ off. by a (λ e. off (p .0 e)))
+  where
+    by : (a : Bool) → (a ≡ true → ⊥) → not a ≡ true
+    by true h = absurd (h refl)
+    by false h = refl
 
 -- a test that says something else by another law
 pub means : {t : Bool} {P Q : Type 0} → Says t P → P ↔ Q → Says t Q

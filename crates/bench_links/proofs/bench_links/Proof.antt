@@ -1,0 +1,64 @@
+-- The loop's invariant: the tally is that after as many events as turns. Assumes nothing.
+use Prim.Native.Nat.{_≤_, _-_}
+use mathlib.Core.Path.{_≡_, ap, _∙_}
+use native.Mathlib.Numerals.{add-one}
+use native.Mathlib.Omega.{arith}
+use lib.ListN.{length, getD}
+use denote.Ref.{now}
+use Rattle.bench_links.specs.declared.Tally.{Tally}
+use borrow.Author.Needs.{needs}
+use Rattle.bench_links.specs.Runs.{after, turnOf}
+use Rattle.bench_links.proofs.bench_links.Statement.{statement}
+use Rattle.bench_links.proofs.bench_links.Tie as tie
+
+abbrev Inv-loop : tie.InvT-loop
+Inv-loop events destination source t₀ i₀ t i = (i ≤ length events) × (t ≡ after destination source events i)
+
+abbrev μ-loop : tie.MeasureT-loop
+μ-loop events destination source t₀ i₀ t i = length events - i
+
+unlinked-requires : tie.Need-unlinked-requires Inv-loop μ-loop
+unlinked-requires c κs = search needs
+
+loop-holds : tie.Need-loop-holds Inv-loop μ-loop
+loop-holds c = (omega arith, rw (c .unlinked .ensures))
+
+shared-slice-read-turn : tie.Need-shared-slice-read-turn Inv-loop μ-loop
+shared-slice-read-turn c = search needs
+
+turn-requires : tie.Need-turn-requires Inv-loop μ-loop
+turn-requires c κs = search needs
+
+add-i : tie.Need-add-i Inv-loop μ-loop
+add-i c = search needs
+
+loop-less : tie.Need-loop-less Inv-loop μ-loop
+loop-less c = omega arith
+
+loop-again : tie.Need-loop-again Inv-loop μ-loop
+loop-again c =
+    let a = c .before .before .before .before .before .before .args in
+    let l = c .before .before .before .loop in
+    (omega arith, rw add-one (c .turn .ensures ∙ ap (turnOf (a .destination) (a .source) (getD (now (a .events)) (l .i) 0)) (l .inv .1)))
+
+returns : tie.Need-returns Inv-loop μ-loop
+returns c =
+    let a = c .before .before .before .before .args in
+    let l = c .before .loop in
+    let done : l .i ≡ length (now (a .events)) = omega (arith, l .inv .0, c .loop-test .left) in
+    ap (λ (t : Tally). t .sum) (l .inv .1 ∙ ap (after (a .destination) (a .source) (now (a .events))) done)
+
+pub bench-links-spec : {M : Type 1} → statement M
+bench-links-spec =
+    tie.close
+    (tie.spec
+    Inv-loop
+    μ-loop
+    unlinked-requires
+    loop-holds
+    shared-slice-read-turn
+    turn-requires
+    add-i
+    loop-less
+    loop-again
+    returns)

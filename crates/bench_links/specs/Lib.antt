@@ -1,0 +1,2 @@
+-- What the bench's calls leave.
+pub mod Runs

@@ -1,0 +1,156 @@
+// What the bench measures: steps of document 01's XL on a run of events that C chooses. C lends no enum, so an event is a number
+// and the state stays within the call.
+ghost use mathlib.Core.Path.{_≡_};
+ghost use Rattle.bench_links.specs.Runs.{eventOf, frameOf, weightOf, phaseOf, mixOf, turnOf, begun, afterAll};
+use open_frame::Awt;
+use open_frame::Head;
+use open_frame::OpenFrame;
+use open_frame::Pbc;
+use xl_parts::Action;
+use xl_parts::Arbitration;
+use xl_parts::BreakEvent;
+use xl_parts::Confirmation;
+use xl_parts::Denial;
+use xl_parts::Event;
+use xl_parts::Message;
+use xl_parts::Notice;
+use xl_parts::Phase;
+use xl_parts::Primitive;
+use xl_parts::Reject;
+use xl_parts::State;
+use xl_parts::Stepped;
+use xl_parts::Wait;
+
+// A link, and a number that every step so far went into.
+struct Tally {
+    pub state: State,
+    pub sum: u32,
+}
+
+fn event(n: u8) -> Event
+    ensures { λ r. ⌜ r ≡ eventOf n ⌝ }
+{
+    match n {
+        0 => Event::Line(Primitive::Open),
+        1 => Event::Line(Primitive::OpenAccept),
+        2 => Event::Line(Primitive::OpenReject(Reject::Retry)),
+        3 => Event::Line(Primitive::Aip(Wait::Partial)),
+        4 => Event::Line(Primitive::Close),
+        5 => Event::Router(Message::SendOpen),
+        6 => Event::Router(Message::SendClose),
+        7 => Event::Router(Message::ArbStatus(Wait::Partial)),
+        8 => Event::Router(Message::OpenAccept),
+        9 => Event::Router(Message::OpenReject(Reject::Retry)),
+        10 => Event::Router(Message::BackoffRetry),
+        11 => Event::Router(Message::BackoffReversePath),
+        12 => Event::Manager(Confirmation::ArbWon),
+        13 => Event::Manager(Confirmation::ArbLost),
+        14 => Event::Manager(Confirmation::ArbReject(Denial::BadLinkRate)),
+        15 => Event::Manager(Confirmation::Arbitrating(Arbitration::BlockedOnPartial)),
+        16 => Event::Own(Notice::PathTimer),
+        17 => Event::Own(Notice::Sent),
+        18 => Event::Own(Notice::Forwarded),
+        19 => Event::Break(BreakEvent::Received),
+        20 => Event::Break(BreakEvent::Routed),
+        21 => Event::Break(BreakEvent::Timeout),
+        _ => Event::Disable,
+    }
+}
+
+// The frame beside an event: its wait by the event's number, so that priorities differ.
+fn frame(n: u8, destination: u64, source: u64) -> OpenFrame
+    ensures { λ r. ⌜ r ≡ frameOf n destination source ⌝ }
+{
+    OpenFrame {
+        head: Head {
+            initiator: 1,
+            protocol: 1,
+            features: 0,
+            rate: 9,
+            tag: 0,
+            destination,
+            source,
+        },
+        pbc: Pbc(0),
+        awt: Awt(n as u16),
+    }
+}
+
+fn weight(a: Action) -> u32
+    ensures { λ r. ⌜ r ≡ weightOf a ⌝ }
+{
+    match a {
+        Action::None => 0,
+        Action::Transmit(_) => 1,
+        Action::Send(_) => 2,
+        Action::RequestPath(_) => 3,
+        Action::Break(_) => 4,
+    }
+}
+
+fn phase(p: Phase) -> u32
+    ensures { λ r. ⌜ r ≡ phaseOf p ⌝ }
+{
+    match p {
+        Phase::Xl0 => 0,
+        Phase::Xl1 => 1,
+        Phase::Xl2 => 2,
+        Phase::Xl3 => 3,
+        Phase::Xl4 => 4,
+        Phase::Xl5 => 5,
+        Phase::Xl6 => 6,
+        Phase::Xl7 => 7,
+        Phase::Xl8 => 8,
+        Phase::Xl9 => 9,
+        Phase::Xl10 => 10,
+    }
+}
+
+// The sum with a step in it.
+fn mix(sum: u32, p: u32, a: u32, b: u32, c: u32, d: u32) -> u32
+    ensures { λ r. ⌜ r ≡ mixOf sum p a b c d ⌝ }
+{
+    sum % 65536 * 31 + (p % 16 * 4096 + (a % 8 * 512 + (b % 8 * 64 + (c % 8 * 8 + d % 8))))
+}
+
+fn turn(t: Tally, n: u8, destination: u64, source: u64) -> Tally
+    ensures { λ r. ⌜ r ≡ turnOf destination source n t ⌝ }
+{
+    let before = t.state;
+    let r = xl::step(before, event(n % 23), frame(n / 23, destination, source));
+    let state = r.state;
+    let actions = r.actions;
+    let p = state.phase;
+    let first = actions.first;
+    let second = actions.second;
+    let third = actions.third;
+    let fourth = actions.fourth;
+    Tally {
+        state,
+        sum: mix(
+            t.sum,
+            phase(p),
+            weight(first),
+            weight(second),
+            weight(third),
+            weight(fourth),
+        ),
+    }
+}
+
+// The events from XL0, each after the one before; the sum then.
+#[no_mangle]
+pub extern "C" fn bench_links(events: &[u8], destination: u64, source: u64) -> u32
+    ensures { λ r. ⌜ r ≡ afterAll destination source (now (events .entry)) .sum ⌝ }
+{
+    let mut t = Tally {
+        state: xl_parts::unlinked(),
+        sum: 0,
+    };
+    let mut i = 0;
+    while i < events.len() {
+        t = turn(t, events[i], destination, source);
+        i += 1;
+    }
+    t.sum
+}

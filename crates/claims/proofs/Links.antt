@@ -1,0 +1,91 @@
+-- Demand 2, the expander link: what each call answers is the row of document 01's table, and over any calls from XL0 the rules are kept,
+-- events are counted, frames pass unchanged, and crossing OPENs back off as document 01 says. Assumes nothing.
+use Prim.Native.Nat.{ℕ, min}
+use mathlib.Core.Bool.{true, false}
+use mathlib.Core.List.{List, [], _++_}
+use mathlib.Core.Path.{_≡_, ap, _∙_}
+use native.Mathlib.Omega.{arith}
+use denote.Ref.{now}
+use Rattle.open_frame.specs.Open.{openBytes, notCarried, cleared, readOpen, headListed}
+use Rattle.open_frame.specs.Priority.{higherThan}
+use Rattle.open_frame.specs.declared.OpenFrame.{OpenFrame}
+use Rattle.open_frame.specs.declared.OpenRead.{OpenRead}
+use Rattle.open_frame.proofs.Trip.{written-read}
+use Rattle.xl_parts.specs.declared.Phase.{Phase}
+use Rattle.xl_parts.specs.declared.Wait.{Wait}
+use Rattle.xl_parts.specs.declared.Primitive.{Primitive}
+use Rattle.xl_parts.specs.declared.Event.{Event}
+use Rattle.xl_parts.specs.declared.Held.{Held}
+use Rattle.xl_parts.specs.declared.Seen.{Seen}
+use Rattle.xl_parts.specs.declared.State.{State}
+use Rattle.xl_parts.specs.declared.Answer.{Answer}
+use Rattle.xl_parts.specs.Parts.{ready, nothing, packed, stay, done}
+use Rattle.xl.specs.Table.{backoff}
+use Rattle.xl.specs.Rules.{rules}
+use Rattle.xl.specs.Steps.{stepOf}
+use Rattle.xl.specs.Status.{statusOf}
+use Rattle.xl.specs.Links.{Call, event, bytes, callOf, run, surprises, brought, frames, names, some, listOf, gapless, In}
+use Rattle.xl.proofs.Walk.{Good}
+use Rattle.xl.proofs.Kept.{kept, ready-keeps}
+use Rattle.xl.proofs.Counts.{run-counts}
+use Rattle.xl.proofs.Shown.{Shows, run-shown, gapless-call}
+use Rattle.xl.proofs.Crossing.{disabled, opens-in-6, unmoved, moved}
+use Rattle.claims.specs.Causes.{Bytes}
+use Rattle.claims.proofs.Calls.{Step, Receive, Status}
+
+-- an OPEN that is received in XL6, where f was transmitted
+pub record Crossed (s : State) (f g : OpenFrame) : Type 0 where
+  pub phase : s .phase ≡ Phase.Xl6
+  pub transmitted : s .memory .held ≡ Held.Frame f
+  pub fields : headListed (g .head) ≡ true
+
+-- the link after some calls from XL0
+abbrev after : List Call → State
+after cs = run cs ready
+
+-- 01 XL.1 01 XL.2 01 XL.3 01 XL.31 01 XL.32 01 PROMISE.3
+pub record Links : Type 0 where
+  -- each call is the one that document 01's table defines
+  pub steps : (c : Step) → c .answer ≡ callOf (event (c .args .1 .0) (c .args .1 .1 .0)) (c .args .0)
+  pub receives : (c : Receive) → c .answer ≡ callOf (bytes (now (c .args .1 .0))) (c .args .0)
+  pub statuses : (c : Status) → c .answer ≡ statusOf (c .args .0)
+  -- every call takes a state that keeps the rules to one that keeps them, over any list of calls; so from XL0
+  pub keeps : (cs : List Call) (s : State) → rules s ≡ true → rules (run cs s) ≡ true
+  pub from-ready : (cs : List Call) → rules (after cs) ≡ true
+  -- the count is the number of events that were not listed for the state that they met, at most 4,294,967,295
+  pub counts : (cs : List Call) → after cs .count ≡ min (surprises cs ready) 4294967295
+  -- every frame transmitted or forwarded is the frame held, and one that was received or sent in
+  pub frames-pass : (cs : List Call) (c : Call) → some names (listOf (callOf c (after cs) .actions)) ≡ true → Shows (λ f. In f (brought c ++ frames cs [])) (callOf c (after cs) .state .memory .held)
+  -- byte for byte: the bytes of a frame that was received, but those that aren't carried
+  pub same-bytes : (b : List ℕ) (f : OpenFrame) → Bytes b → readOpen b ≡ OpenRead.Frame f → openBytes f ≡ cleared notCarried b
+  -- actions are in order, with no gap
+  pub in-order : (cs : List Call) (c : Call) → gapless (listOf (callOf c (after cs) .actions)) ≡ true
+  -- while no AIP was seen, an OPEN that is not of higher priority does nothing
+  pub stands : (cs : List Call) (f g : OpenFrame) → Crossed (after cs) f g → after cs .memory .aip ≡ Seen.Never → higherThan g f ≡ false → stepOf g (Event.Line Primitive.Open) (after cs) ≡ done (stay [] (after cs))
+  -- once one was seen, every OPEN backs off
+  pub yields : (cs : List Call) (f g : OpenFrame) (w : Wait) → Crossed (after cs) f g → after cs .memory .aip ≡ Seen.Latest w → stepOf g (Event.Line Primitive.Open) (after cs) ≡ done (backoff f g (after cs))
+  -- Disable gives XL0 with no action and no memory but the count
+  pub disables : (s : State) (f : OpenFrame) → rules s ≡ true → stepOf f Event.Disable s ≡ record { answer = Answer.Done; state = record { phase = Phase.Xl0; memory = nothing; count = s .count }; actions = packed [] }
+
+new : Good (λ f. In f []) ready
+new = record { held = tt; heard = tt; holds = λ e. e-not e }
+  where
+    e-not : {A : Type 0} → false ≡ true → A
+    e-not e = let z : _≡_ {A = ℕ} 0 1 = cc in absurd (omega arith)
+
+pub links : Links
+unfolding callOf
+links = record {
+  steps = λ c. c .met;
+  receives = λ c. c .met;
+  statuses = λ c. c .met;
+  keeps = λ cs s e. kept cs s e;
+  from-ready = λ cs. kept cs ready ready-keeps;
+  counts = λ cs. let e = run-counts cs ready (omega arith) in omega (arith, e);
+  frames-pass = λ cs c. run-shown cs [] ready new c;
+  same-bytes = λ b f small e. written-read b f small e;
+  in-order = λ cs c. gapless-call (after cs) (kept cs ready ready-keeps) c;
+  stands = λ cs f g x never low. opens-in-6 (after cs) g (kept cs ready ready-keeps) (x .phase) (x .fields) ∙ ap done (unmoved (after cs) f g (x .transmitted) never low);
+  yields = λ cs f g w x seen. opens-in-6 (after cs) g (kept cs ready ready-keeps) (x .phase) (x .fields) ∙ ap done (moved (after cs) f g (x .transmitted) w seen);
+  disables = λ s f e. disabled s e f;
+}

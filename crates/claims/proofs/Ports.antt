@@ -1,0 +1,62 @@
+-- What is shown of the port so far: its choice is the right one, its test of a lent state says document 01's rules, a call is refused exactly by
+-- the first ground that holds and then leaves every record, and a running loss timer runs on. Each call's promise is the definition
+-- that these speak of. Assumes nothing.
+use Prim.Native.Nat.{ℕ, _≤_, _<_}
+use mathlib.Core.Bool.{Bool, true, false}
+use mathlib.Core.List.{List}
+use mathlib.Core.Logic.{_↔_}
+use mathlib.Core.Path.{_≡_}
+use lib.ListN.{length}
+use Rattle.laws.proofs.Tests.{Says}
+use Rattle.refusals.specs.Causes.{First}
+use Rattle.refusals.specs.declared.Refusal.{Refusal}
+use Rattle.port_parts.specs.Parts.{isSet}
+use Rattle.port_parts.specs.Choice.{chosenOf}
+use Rattle.port_parts.specs.Qualifies.{Fits, Right}
+use Rattle.port_parts.specs.Timer.{timerBy}
+use Rattle.port_parts.specs.declared.Asked.{Asked}
+use Rattle.port_parts.specs.declared.Pick.{Pick}
+use Rattle.port_parts.specs.declared.Phy.{Phy}
+use Rattle.port_parts.specs.declared.Port.{Port}
+use Rattle.port_parts.specs.declared.Reason.{Reason}
+use Rattle.port_parts.specs.declared.Request.{Request}
+use Rattle.port_parts.specs.declared.Stamp.{Stamp}
+use Rattle.port_parts.proofs.Choices.{choose-right, nothing-exactly}
+use Rattle.port_parts.proofs.Timers.{runs-on}
+use Rattle.port_rules.specs.Rules.{rules}
+use Rattle.port_rules.specs.Kept.{Kept, InRange}
+use Rattle.port_rules.proofs.Facts.{rules-say}
+use Rattle.port_core.specs.Answers.{fresh, refusedBy}
+use Rattle.port_core.specs.Calls.{bare}
+use Rattle.port_core.specs.declared.Word.the-variants.{Taken, Refused}
+use Rattle.port.specs.Calls.{leftOf}
+use Rattle.port.specs.Grounds.{groundsOf}
+use Rattle.port.specs.History.{State, Call, steppedBy}
+use Rattle.port.proofs.Promised.{refused-leaves}
+use Rattle.port.proofs.Refusals.{refused-exactly}
+use Rattle.port.proofs.Begins.{setup-kept}
+
+-- 01 PORT.12 01 PORT.13 01 PORT.14 01 PORT.15
+pub record Ports : Type 1 where
+  pub chooses : (x : Asked) (l : List Request) → length (x .phys) ≡ 8 → Right (x .phys) (x .now) l (chosenOf x l 32)
+  pub nothing : (ps : List Phy) (now : ℕ) (l : List Request) (p : Pick) → Right ps now l p → (p .step ≡ 0) ↔ ((i k step : ℕ) → i < 32 → k < 8 → Fits ps now l i k step → ⊥)
+  -- 01 TRAP.3
+  pub timer : (stops starts : Reason → Bool) (why : Reason) (t : Stamp) (now : ℕ) → stops why ≡ false → isSet t ≡ true → timerBy (stops why) (starts why) t now ≡ t
+  -- 01 PORT.4 01 PORT.5 01 PORT.6 01 PORT.7 01 PORT.8 01 PORT.9 01 PORT.10
+  pub kept : (p : Port) (l : List Request) → Says (rules p l) (Kept p l)
+  -- 01 PORT.2
+  pub begins : (count loss : ℕ) (l : List Request) → length l ≡ 32 → InRange count loss → Kept (fresh count loss) (leftOf l (bare (fresh count loss) Taken true))
+  -- 01 REFUSAL.4 01 REFUSAL.5 01 REFUSAL.9 01 REFUSAL.10 01 REFUSAL.14
+  pub refuses : (c : Call) (s : State) (k : Refusal) → (steppedBy c s .answer .word ≡ Refused k) ↔ First (groundsOf c s) k
+  pub leaves : (l : List Request) (p : Port) (k : Refusal) → leftOf l (refusedBy p k) ≡ l
+
+pub ports : Ports
+ports = record {
+  chooses = choose-right;
+  nothing = nothing-exactly;
+  timer = runs-on;
+  kept = rules-say;
+  begins = setup-kept;
+  refuses = refused-exactly;
+  leaves = refused-leaves;
+}

@@ -1,0 +1,289 @@
+-- A call of the port is refused exactly by the first of its grounds that holds, since each of its tests decides one ground: the test of
+-- the lent state says its rules, and a scan finds a request exactly if there is one. Assumes nothing.
+use Prim.Native.Nat.{ℕ, zero, suc, min, _<_}
+use native.Mathlib.Nat.{not-suc-le-zero}
+use mathlib.Core.Path.{_≡_, refl, sym, ap, subst, _∙_}
+use mathlib.Core.Bool.{Bool, true, false, not, cond, _&&_, _||_}
+use mathlib.Core.List.{List, [], _∷_}
+use mathlib.Core.Logic.{_⊎_, inl, inr, _↔_}
+use native.Mathlib.Omega.{arith}
+use lib.Dec.{eqb, leb, ltb}
+use lib.ListN.{length, getD, List·getD-eq-default}
+use borrow.Author.Tests.{leb-true, le-leb, eqb-true, eq-eqb, ltb-true, ltb-false}
+use Rattle.laws.specs.Folds.{foldTo}
+use Rattle.laws.proofs.Bools.{never}
+use Rattle.laws.proofs.Tests.{Says, less, most, equal, itself, both, either, unless, means}
+use Rattle.laws.proofs.Folds.{fold-part}
+use Rattle.laws.proofs.Finds.{Found, none, at, found, Some, some}
+use Rattle.refusals.specs.Causes.{Cause, _when_, refuse, First, Decides, nil, cons}
+use Rattle.refusals.specs.declared.Refusal.{Refusal}
+use Rattle.refusals.proofs.Causes as causes
+use Rattle.open_frame.specs.Open.{headListed}
+use Rattle.open_frame.specs.declared.Head.{Head}
+use Rattle.port_parts.specs.Parts.{blank, isFree, isWaiting, isSsp, isOpening, isDisabled}
+use Rattle.port_parts.specs.Reasons.{reasons, reasonOf, isListed, isRetried}
+use Rattle.port_parts.specs.Timer.{isLost}
+use Rattle.port_parts.specs.declared.Pick.{Pick}
+use Rattle.port_parts.specs.declared.Phy.{Phy}
+use Rattle.port_parts.specs.declared.Reason.{Reason}
+use Rattle.port_parts.specs.declared.Reason.the-variants.{Other}
+use Rattle.port_parts.specs.declared.Port.{Port}
+use Rattle.port_parts.specs.declared.Request.{Request}
+use Rattle.port_rules.specs.Rules.{inRange, rules, sameKey, names, hasFrameOut}
+use Rattle.port_rules.specs.Kept.{Kept, Free, SameKey}
+use Rattle.port_rules.proofs.Facts.{range-says, rules-say}
+use Rattle.port_core.specs.Finds.{noRoom, roomStep, roomOf, hasKey, keyStep, keyOf}
+use Rattle.port_core.specs.Calls.{phyAt, isJoined, isCancelled, closedPhy, marked, sent, opening, closing, idle, failedWord, timerAfter, bare, submitted, cancelled, chosen, connected, failed, framed, closedDone, disabledDone, submitCauses, cancelCauses, chooseCauses, phyCauses, failedCauses, setupOf, submitOf, cancelOf, chooseOf, openedOf, openFailedOf, frameStatusOf, closedOf, enableOf, disableOf}
+use Rattle.port_core.specs.Answers.{told, later, withPhy, fresh, noPort, idlePhy, unchanged, refusedBy}
+use Rattle.port_core.specs.declared.Done.{Done}
+use Rattle.port_core.specs.declared.Word.{Word}
+use Rattle.port_core.specs.declared.Word.the-variants.{Taken, Submitted, Send, Close, StopArb, Retried, Waiting, CancelAcknowledged, Ended, NexusLoss, ConnectionLost, Status, Refused}
+use Rattle.port_core.specs.declared.Key.{Key}
+use Rattle.port_core.specs.declared.Room.{Room}
+use Rattle.port.specs.History.{State, Call, doneOf, steppedBy, isRefused, setup, submit, cancel, choose, opened, openFailed, frameStatus, closed, enable, disable}
+use Rattle.port.specs.Calls.{steppedOf, short, shortSetup, onPhy, pickAt}
+use Rattle.port.specs.declared.Stepped.{Stepped}
+use Rattle.port.specs.Grounds.{Present, Full, HasKey, Absent, FrameOut, Joined, phyGrounds, groundsOf}
+
+-- ---- what the scans find
+
+-- submit takes the lowest free slot
+pub lowest-free : (l : List Request) (h : Head) → Found blank isFree l 32 32 (roomOf l h .free)
+lowest-free l h =
+    subst (Found blank isFree l 32 32) (sym (fold-part blank (λ a r i. roomStep a r i h) (λ (a : ℕ) r i. cond (eqb a 32 && isFree r) (min i 32) a) (λ (a : Room). a .free) (λ a r i. refl) noRoom l 32))
+    (found blank isFree l 32 32 (omega arith))
+
+full-says : (l : List Request) (h : Head) → Says (leb 32 (roomOf l h .free)) (Full l)
+full-says l h = by (lowest-free l h)
+  where
+    by : Found blank isFree l 32 32 (roomOf l h .free) → Says (leb 32 (roomOf l h .free)) (Full l)
+    by (none e off) = (λ t i k free. never (sym (off i k) ∙ eq-eqb (getD l i blank .stage) 0 free), λ all. le-leb 32 (roomOf l h .free) (omega arith))
+    by (at m p off) = (
+      λ t. absurd (let over = leb-true 32 (roomOf l h .free) t in omega arith),
+      λ all. absurd (all (roomOf l h .free) (omega arith) (eqb-true (getD l (roomOf l h .free) blank .stage) 0 p)),
+    )
+
+taken-says : (h : Head) (r : Request) → Says (not (isFree r) && sameKey (r .head) h) ((Free r → ⊥) × SameKey (r .head) h)
+taken-says h r =
+    both (unless (equal (r .stage) 0))
+    (both (equal (r .head .destination) (h .destination)) (both (equal (r .head .protocol) (h .protocol)) (equal (r .head .tag) (h .tag))))
+
+present-says : (l : List Request) (h : Head) → Says (roomOf l h .same) (Present l h)
+present-says l h =
+    means (subst (λ (t : Bool). Says t (Some blank taken l 32)) (sym part) (some blank taken l 32)) (
+      λ s. let says = taken-says h (getD l (s .i) blank) .0 (s .passes) in record { slot = s .i; below = s .below; there = says .0; same = says .1 },
+      λ p. record { i = p .slot; below = p .below; passes = taken-says h (getD l (p .slot) blank) .1 (p .there, p .same) },
+    )
+  where
+    taken : Request → Bool
+    taken r = not (isFree r) && sameKey (r .head) h
+
+    part : roomOf l h .same ≡ foldTo blank (λ (a : Bool) r i. a || taken r) false l 32
+    part = fold-part blank (λ a r i. roomStep a r i h) (λ (a : Bool) r i. a || taken r) (λ (a : Room). a .same) (λ a r i. refl) noRoom l 32
+
+key-says : (r : Request) (x : Key) → Says (hasKey r x) (HasKey r x)
+key-says r x =
+    both (unless (equal (r .stage) 0))
+    (both (equal (r .head .destination) (x .destination)) (both (equal (r .head .protocol) (x .protocol)) (equal (r .head .tag) (x .tag))))
+
+-- cancel finds the first request with the key
+pub key-found : (l : List Request) (x : Key) → Found blank (λ r. hasKey r x) l 32 32 (keyOf l x)
+key-found l x = found blank (λ r. hasKey r x) l 32 32 (omega arith)
+
+absent-says : (l : List Request) (x : Key) → Says (leb 32 (keyOf l x)) (Absent l x)
+absent-says l x = by (key-found l x)
+  where
+    by : Found blank (λ r. hasKey r x) l 32 32 (keyOf l x) → Says (leb 32 (keyOf l x)) (Absent l x)
+    by (none e off) = (λ t i k has. never (sym (off i k) ∙ key-says (getD l i blank) x .1 has), λ gone. le-leb 32 (keyOf l x) (omega arith))
+    by (at m p off) = (
+      λ t. absurd (let over = leb-true 32 (keyOf l x) t in omega arith),
+      λ gone. absurd (gone (keyOf l x) (omega arith) (key-says (getD l (keyOf l x) blank) x .0 p)),
+    )
+
+-- a number is that of a reason exactly if it is below their count
+abbrev AllListed : List Reason → Type 0
+AllListed [] = Unit {0}
+AllListed (why ∷ rs) = (isListed why ≡ true) × AllListed rs
+
+listed-at : (rs : List Reason) → AllListed rs → (n : ℕ) → n < length rs → isListed (getD rs n Other) ≡ true
+listed-at [] all n h = absurd (not-suc-le-zero h)
+listed-at (why ∷ rs) all zero h = all .0
+listed-at (why ∷ rs) all (suc n) h = listed-at rs (all .1) n (omega arith)
+
+reason-says : (n : ℕ) → Says (isListed (reasonOf n)) (n < length reasons)
+reason-says n = (there, listed-at reasons (refl, (refl, (refl, (refl, (refl, (refl, (refl, (refl, (refl, (refl, tt)))))))))) n)
+  where
+    there : isListed (reasonOf n) ≡ true → n < length reasons
+    there e = by (ltb n 10) refl
+      where
+        by : (t : Bool) → ltb n 10 ≡ t → n < length reasons
+        by true h = ltb-true n 10 h
+        by false h = absurd (never (ap isListed (sym (List·getD-eq-default reasons Other {n = n} (ltb-false n 10 h))) ∙ e))
+
+-- ---- the tests decide the grounds
+
+sized : (s : State) → Says (not (eqb (length (s .list)) 32)) (length (s .list) ≡ 32 → ⊥)
+sized s = unless (equal (length (s .list)) 32)
+
+broken : (s : State) → Says (not (rules (s .port) (s .list))) (Kept (s .port) (s .list) → ⊥)
+broken s = unless (rules-say (s .port) (s .list))
+
+phy-decides : (s : State) (k now : ℕ) {t : Bool} {P : Type 0} → Says t P → Decides (phyCauses (s .port) (rules (s .port) (s .list)) k now t) (phyGrounds s k now P)
+phy-decides s k now p = cons (broken s) (cons (unless (less k (s .port .count))) (cons (less now (s .port .last)) (cons p nil)))
+
+joined-says : (f : Phy) → Says (isJoined f) (Joined f)
+joined-says f = either (either (equal (f .stage) 3) (equal (f .stage) 4)) (either (equal (f .stage) 5) (equal (f .stage) 6))
+
+out-says : (f : Phy) → Says (hasFrameOut f) (FrameOut f)
+out-says f = either (equal (f .stage) 4) (equal (f .stage) 6)
+
+-- what a call checks, the length of the list first
+unfoldable pub causesOf : Call → State → List Cause
+causesOf (setup count loss) s = (Refusal.Length when not (eqb (length (s .list)) 32)) ∷ (Refusal.Rules when not (inRange count loss)) ∷ []
+causesOf (submit x) s = (Refusal.Length when not (eqb (length (s .list)) 32)) ∷ submitCauses (s .port) (rules (s .port) (s .list)) (roomOf (s .list) (x .head)) x
+causesOf (cancel x) s =
+    (Refusal.Length when not (eqb (length (s .list)) 32))
+    ∷ cancelCauses (s .port) (getD (s .list) (keyOf (s .list) (x .key)) blank) (rules (s .port) (s .list)) (keyOf (s .list) (x .key)) x
+causesOf (choose x) s = (Refusal.Length when not (eqb (length (s .list)) 32)) ∷ chooseCauses (s .port) (rules (s .port) (s .list)) (x .now)
+causesOf (opened x) s =
+    (Refusal.Length when not (eqb (length (s .list)) 32)) ∷ phyCauses (s .port) (rules (s .port) (s .list)) (x .phy) (x .now) (not (isOpening (phyAt (s .port) (x .phy))))
+causesOf (openFailed x) s = (Refusal.Length when not (eqb (length (s .list)) 32)) ∷ failedCauses (s .port) (rules (s .port) (s .list)) x (not (isOpening (phyAt (s .port) (x .phy))))
+causesOf (frameStatus x) s =
+    (Refusal.Length when not (eqb (length (s .list)) 32)) ∷ phyCauses (s .port) (rules (s .port) (s .list)) (x .phy) (x .now) (not (hasFrameOut (phyAt (s .port) (x .phy))))
+causesOf (closed x) s =
+    (Refusal.Length when not (eqb (length (s .list)) 32)) ∷ phyCauses (s .port) (rules (s .port) (s .list)) (x .phy) (x .now) (not (isJoined (phyAt (s .port) (x .phy))))
+causesOf (enable x) s =
+    (Refusal.Length when not (eqb (length (s .list)) 32)) ∷ phyCauses (s .port) (rules (s .port) (s .list)) (x .phy) (x .now) (not (isDisabled (phyAt (s .port) (x .phy))))
+causesOf (disable x) s =
+    (Refusal.Length when not (eqb (length (s .list)) 32)) ∷ phyCauses (s .port) (rules (s .port) (s .list)) (x .phy) (x .now) (isDisabled (phyAt (s .port) (x .phy)))
+
+pub decides : (c : Call) (s : State) → Decides (causesOf c s) (groundsOf c s)
+unfolding causesOf
+decides (setup count loss) s = cons (sized s) (cons (unless (range-says count loss)) nil)
+decides (submit x) s =
+    cons (sized s)
+    (cons (unless (itself (headListed (x .head))))
+    (cons (broken s) (cons (less (x .now) (s .port .last)) (cons (present-says (s .list) (x .head)) (cons (full-says (s .list) (x .head)) nil)))))
+decides (cancel x) s =
+    cons (sized s)
+    (cons (unless (less (x .key .protocol) 3))
+    (cons (broken s)
+    (cons (less (x .now) (s .port .last))
+    (cons (either (absent-says (s .list) (x .key)) (equal (getD (s .list) (keyOf (s .list) (x .key)) blank .cancelled) 1)) nil))))
+decides (choose x) s = cons (sized s) (cons (broken s) (cons (less (x .now) (s .port .last)) nil))
+decides (opened x) s = cons (sized s) (phy-decides s (x .phy) (x .now) (unless (equal (phyAt (s .port) (x .phy) .stage) 2)))
+decides (openFailed x) s = cons (sized s) (cons (unless (reason-says (x .why))) (phy-decides s (x .phy) (x .now) (unless (equal (phyAt (s .port) (x .phy) .stage) 2))))
+decides (frameStatus x) s = cons (sized s) (phy-decides s (x .phy) (x .now) (unless (out-says (phyAt (s .port) (x .phy)))))
+decides (closed x) s = cons (sized s) (phy-decides s (x .phy) (x .now) (unless (joined-says (phyAt (s .port) (x .phy)))))
+decides (enable x) s = cons (sized s) (phy-decides s (x .phy) (x .now) (unless (equal (phyAt (s .port) (x .phy) .stage) 0)))
+decides (disable x) s = cons (sized s) (phy-decides s (x .phy) (x .now) (equal (phyAt (s .port) (x .phy) .stage) 0))
+
+-- ---- the answer is the first cause's refusal
+
+-- what a call leaves where it is not refused
+unfoldable takenOf : Call → State → Done
+takenOf (setup count loss) s = bare (fresh count loss) Taken true
+takenOf (submit x) s =
+    told (later (s .port) (x .now)) Submitted (roomOf (s .list) (x .head) .free) 8 (submitted (roomOf (s .list) (x .head)) x) (submitted (roomOf (s .list) (x .head)) x) unchanged
+takenOf (cancel x) s = cancelled (s .port) (getD (s .list) (keyOf (s .list) (x .key)) blank) (keyOf (s .list) (x .key)) (x .now)
+takenOf (choose x) s = chosen (s .port) (getD (s .list) (pickAt (s .list) (s .port) (x .now) .slot) blank) (pickAt (s .list) (s .port) (x .now)) (x .now)
+takenOf (opened x) s = connected (s .port) (phyAt (s .port) (x .phy)) (onPhy (s .list) (s .port) (x .phy)) x
+takenOf (openFailed x) s = failed (s .port) (phyAt (s .port) (x .phy)) (onPhy (s .list) (s .port) (x .phy)) (reasonOf (x .why)) (x .phy) (x .now)
+takenOf (frameStatus x) s = framed (s .port) (phyAt (s .port) (x .phy)) (onPhy (s .list) (s .port) (x .phy)) x
+takenOf (closed x) s = closedDone (s .port) (phyAt (s .port) (x .phy)) (onPhy (s .list) (s .port) (x .phy)) x
+takenOf (enable x) s = told (withPhy (s .port) (x .phy) idlePhy (x .now)) Taken 32 (x .phy) (onPhy (s .list) (s .port) (x .phy)) blank unchanged
+takenOf (disable x) s = disabledDone (s .port) (phyAt (s .port) (x .phy)) (onPhy (s .list) (s .port) (x .phy)) x
+
+abbrev goesOn : Call → State → Word
+goesOn c s = takenOf c s .answer .word
+
+-- the length comes first, and then the causes of the core
+by-length : (b : Bool) (d : Done) (short : Stepped) → short .answer .word ≡ Refused Refusal.Length → (cond b (steppedOf d) short) .answer .word ≡ cond (not b) (Refused Refusal.Length) (d .answer .word)
+by-length true d short e = refl
+by-length false d short e = e
+
+word-of : (s : State) (p : Port) (cs : List Cause) (d : Done) (short : Stepped) → short .answer .word ≡ Refused Refusal.Length
+    → (cond (eqb (length (s .list)) 32) (steppedOf (refuse (refusedBy p) cs d)) short) .answer .word ≡ refuse Refused ((Refusal.Length when not (eqb (length (s .list)) 32)) ∷ cs) (d .answer .word)
+word-of s p cs d short e =
+    by-length (eqb (length (s .list)) 32) (refuse (refusedBy p) cs d) short e
+    ∙ ap (cond (not (eqb (length (s .list)) 32)) (Refused Refusal.Length)) (causes.through (λ (k : Done). k .answer .word) (refusedBy p) cs d)
+
+word-is : (c : Call) (s : State) → steppedBy c s .answer .word ≡ refuse Refused (causesOf c s) (goesOn c s)
+unfolding doneOf causesOf takenOf setupOf submitOf cancelOf chooseOf openedOf openFailedOf frameStatusOf closedOf enableOf disableOf
+word-is (setup count loss) s = word-of s noPort ((Refusal.Rules when not (inRange count loss)) ∷ []) (takenOf (setup count loss) s) (shortSetup count) refl
+word-is (submit x) s = word-of s (s .port) (submitCauses (s .port) (rules (s .port) (s .list)) (roomOf (s .list) (x .head)) x) (takenOf (submit x) s) (short (s .port)) refl
+word-is (cancel x) s =
+    word-of s (s .port) (cancelCauses (s .port) (getD (s .list) (keyOf (s .list) (x .key)) blank) (rules (s .port) (s .list)) (keyOf (s .list) (x .key)) x) (takenOf (cancel x) s) (short (s .port)) refl
+word-is (choose x) s = word-of s (s .port) (chooseCauses (s .port) (rules (s .port) (s .list)) (x .now)) (takenOf (choose x) s) (short (s .port)) refl
+word-is (opened x) s = word-of s (s .port) (phyCauses (s .port) (rules (s .port) (s .list)) (x .phy) (x .now) (not (isOpening (phyAt (s .port) (x .phy))))) (takenOf (opened x) s) (short (s .port)) refl
+word-is (openFailed x) s =
+    word-of s (s .port) (failedCauses (s .port) (rules (s .port) (s .list)) x (not (isOpening (phyAt (s .port) (x .phy))))) (takenOf (openFailed x) s) (short (s .port)) refl
+word-is (frameStatus x) s =
+    word-of s (s .port) (phyCauses (s .port) (rules (s .port) (s .list)) (x .phy) (x .now) (not (hasFrameOut (phyAt (s .port) (x .phy))))) (takenOf (frameStatus x) s) (short (s .port)) refl
+word-is (closed x) s = word-of s (s .port) (phyCauses (s .port) (rules (s .port) (s .list)) (x .phy) (x .now) (not (isJoined (phyAt (s .port) (x .phy))))) (takenOf (closed x) s) (short (s .port)) refl
+word-is (enable x) s = word-of s (s .port) (phyCauses (s .port) (rules (s .port) (s .list)) (x .phy) (x .now) (not (isDisabled (phyAt (s .port) (x .phy))))) (takenOf (enable x) s) (short (s .port)) refl
+word-is (disable x) s = word-of s (s .port) (phyCauses (s .port) (rules (s .port) (s .list)) (x .phy) (x .now) (isDisabled (phyAt (s .port) (x .phy)))) (takenOf (disable x) s) (short (s .port)) refl
+
+-- where a call isn't refused its word is no refusal
+choice : (t : Bool) (v w : Word) → isRefused v ≡ false → isRefused w ≡ false → isRefused (cond t v w) ≡ false
+choice true v w a b = a
+choice false v w a b = b
+
+cancelled-word : (p : Port) (r : Request) (s now : ℕ) → isRefused (cancelled p r s now .answer .word) ≡ false
+unfolding cancelled
+cancelled-word p r s now = by (isWaiting r) (isOpening (phyAt p (r .phy)))
+  where
+    by : (t u : Bool)
+        → isRefused ((cond t (told (later p now) CancelAcknowledged s 8 r blank unchanged) (told (withPhy p (r .phy) (closedPhy (phyAt p (r .phy))) now) (cond u StopArb Close) s (r .phy) r (marked r 1 (r .closed)) unchanged)) .answer .word) ≡ false
+    by true u = refl
+    by false true = refl
+    by false false = refl
+
+chosen-word : (p : Port) (r : Request) (b : Pick) (now : ℕ) → isRefused (chosen p r b now .answer .word) ≡ false
+unfolding chosen
+chosen-word p r b now = by (eqb (b .step) 1) (eqb (b .step) 2) (eqb (b .step) 3)
+  where
+    by : (t u v : Bool) → isRefused ((cond t (sent p r b now) (cond u (opening p r b now) (cond v (closing p r b now) (idle p now)))) .answer .word) ≡ false
+    by true u v = refl
+    by false true v = refl
+    by false false true = refl
+    by false false false = refl
+
+failed-word : (p : Port) (r : Request) (why : Reason) (now : ℕ) → isRefused (failedWord p r why now) ≡ false
+failed-word p r why now = by (isCancelled r) (not (isRetried why)) (isSsp (r .head) && isLost (timerAfter r why now) (p .loss) now)
+  where
+    by : (t u v : Bool) → isRefused (cond t CancelAcknowledged (cond u (Ended why) (cond v NexusLoss Retried))) ≡ false
+    by true u v = refl
+    by false true v = refl
+    by false false true = refl
+    by false false false = refl
+
+taken : (c : Call) (s : State) → isRefused (goesOn c s) ≡ false
+unfolding takenOf
+taken (setup count loss) s = refl
+taken (submit x) s = refl
+taken (cancel x) s = cancelled-word (s .port) (getD (s .list) (keyOf (s .list) (x .key)) blank) (keyOf (s .list) (x .key)) (x .now)
+taken (choose x) s = chosen-word (s .port) (getD (s .list) (pickAt (s .list) (s .port) (x .now) .slot) blank) (pickAt (s .list) (s .port) (x .now)) (x .now)
+taken (opened x) s = choice (isCancelled (onPhy (s .list) (s .port) (x .phy))) Close Send refl refl
+taken (openFailed x) s = failed-word (s .port) (onPhy (s .list) (s .port) (x .phy)) (reasonOf (x .why)) (x .now)
+taken (frameStatus x) s = choice (isCancelled (onPhy (s .list) (s .port) (x .phy))) CancelAcknowledged (Status (x .status)) refl refl
+taken (closed x) s =
+    choice (names (phyAt (s .port) (x .phy))) (cond (isCancelled (onPhy (s .list) (s .port) (x .phy))) CancelAcknowledged ConnectionLost) Taken
+    (choice (isCancelled (onPhy (s .list) (s .port) (x .phy))) CancelAcknowledged ConnectionLost refl refl) refl
+taken (enable x) s = refl
+taken (disable x) s =
+    choice (names (phyAt (s .port) (x .phy))) (cond (isCancelled (onPhy (s .list) (s .port) (x .phy))) CancelAcknowledged Waiting) Taken
+    (choice (isCancelled (onPhy (s .list) (s .port) (x .phy))) CancelAcknowledged Waiting refl refl) refl
+
+apart : (c : Call) (s : State) (k : Refusal) → goesOn c s ≡ Refused k → ⊥
+apart c s k e = never (sym (taken c s) ∙ ap isRefused e)
+
+one : (j k : Refusal) → Refused j ≡ Refused k → j ≡ k
+one j k e = cc
+
+-- a call is refused with k exactly if k is the first ground that holds
+pub refused-exactly : (c : Call) (s : State) (k : Refusal) → (steppedBy c s .answer .word ≡ Refused k) ↔ First (groundsOf c s) k
+refused-exactly c s k = (
+  λ e. causes.only Refused (goesOn c s) one (apart c s) (decides c s) k (sym (word-is c s) ∙ e),
+  λ f. word-is c s ∙ causes.if-first Refused (goesOn c s) one (apart c s) (decides c s) k f,
+)

@@ -1,0 +1,17 @@
+use borrow.Author.Needs.{needs}
+use Rattle.port.proofs.key_start.Statement.{statement}
+use Rattle.port.proofs.key_start.Tie as tie
+use Rattle.port.proofs.key_start.Reads as reads
+use Rattle.port.proofs.key_start.Lts as lts
+use Rattle.port_rules.proofs.port_rule.Reads as port-rule-reads
+
+-- src/lib.rt:157:9
+port-rule-requires : tie.Need-port-rule-requires
+port-rule-requires c κs = search needs
+
+-- src/lib.rt:153:1
+returns : tie.Need-returns
+returns c = rw (c .port-rule .ensures)
+
+pub key-start-spec : {M : Type 1} → statement M
+key-start-spec = tie.close (tie.spec port-rule-requires returns)

@@ -1,0 +1,22 @@
+use borrow.Author.Needs.{needs}
+use Rattle.port.proofs.phy_start.Statement.{statement}
+use Rattle.port.proofs.phy_start.Tie as tie
+use Rattle.port.proofs.phy_start.Reads as reads
+use Rattle.port.proofs.phy_start.Lts as lts
+use Rattle.port_core.proofs.phy_at.Reads as phy-at-reads
+use Rattle.port_rules.proofs.port_rule.Reads as port-rule-reads
+
+-- src/lib.rt:92:9
+phy-at-requires : tie.Need-phy-at-requires
+phy-at-requires c κs = search needs
+
+-- src/lib.rt:94:15
+port-rule-requires : tie.Need-port-rule-requires
+port-rule-requires c κs = search needs
+
+-- src/lib.rt:88:1
+returns : tie.Need-returns
+returns c = rw (c .port-rule .ensures, c .before .phy-at .ensures)
+
+pub phy-start-spec : {M : Type 1} → statement M
+phy-start-spec = tie.close (tie.spec phy-at-requires port-rule-requires returns)

@@ -1,0 +1,21 @@
+use borrow.Author.Needs.{needs}
+use Rattle.port.proofs.spread.Statement.{statement}
+use Rattle.port.proofs.spread.Tie as tie
+use Rattle.port.proofs.spread.Reads as reads
+use Rattle.port.proofs.spread.Lts as lts
+use Rattle.port_core.proofs.timed.Reads as timed-reads
+
+-- src/lib.rt:139:9
+timed-requires : tie.Need-timed-requires
+timed-requires c κs = search needs
+
+-- src/lib.rt:139:9
+returns : tie.Need-returns
+returns c = rw (c .timed .ensures, c .before .if1 .taken)
+
+-- src/lib.rt:134:1
+returns-2 : tie.Need-returns-2
+returns-2 c = rw (c .if1 .left)
+
+pub spread-spec : {M : Type 1} → statement M
+spread-spec = tie.close (tie.spec timed-requires returns returns-2)

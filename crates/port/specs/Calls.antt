@@ -1,0 +1,97 @@
+-- Document 01, 'Port': each call over the list of 32 records that the caller lends, and what it promises. Assumes nothing.
+use Prim.Native.Nat.{ℕ}
+use mathlib.Core.Path.{_≡_}
+use mathlib.Core.Bool.{Bool, not, cond, _&&_}
+use mathlib.Core.List.{List}
+use lib.Dec.{eqb}
+use lib.ListN.{length, getD}
+use Rattle.laws.specs.Folds.{mapTo}
+use Rattle.refusals.specs.declared.Refusal.{Refusal}
+use Rattle.port_parts.specs.Parts.{blank, isFree, isSsp}
+use Rattle.port_parts.specs.Choice.{chosenOf}
+use Rattle.port_parts.specs.declared.Pick.{Pick}
+use Rattle.port_parts.specs.declared.Port.{Port}
+use Rattle.port_parts.specs.declared.Request.{Request}
+use Rattle.port_rules.specs.Rules.{rules}
+use Rattle.port_core.specs.Answers.{noPort, refusedBy}
+use Rattle.port_core.specs.Finds.{roomOf, keyOf}
+use Rattle.port_core.specs.Calls.{timed, phyAt, setupOf, submitOf, cancelOf, chooseOf, openedOf, openFailedOf, frameStatusOf, closedOf, enableOf, disableOf}
+use Rattle.port_core.specs.declared.Loss.{Loss}
+use Rattle.port_core.specs.declared.Done.{Done}
+use Rattle.port_core.specs.declared.Wish.{Wish}
+use Rattle.port_core.specs.declared.Withdrawn.{Withdrawn}
+use Rattle.port_core.specs.declared.Confirmed.{Confirmed}
+use Rattle.port_core.specs.declared.Failure.{Failure}
+use Rattle.port_core.specs.declared.Report.{Report}
+use Rattle.port.specs.declared.Stepped.{Stepped}
+use Rattle.port.specs.declared.Moment.{Moment}
+
+-- 01 PORT.26: The destination's last SSP request to leave stops it too.
+-- every SSP request to the destination of a timer that changes gets it
+abbrev pub spread : Loss → Request → Request
+spread x r = cond (x .change && (not (isFree r) && (isSsp (r .head) && eqb (r .head .destination) (x .destination)))) (timed r (x .timer)) r
+
+-- record i after a call
+abbrev pub leftStep : Request → ℕ → Done → Request
+leftStep r i d = cond (d .cleared) blank (cond (eqb i (d .answer .slot)) (d .entry) (spread (d .loss) r))
+
+abbrev pub leftOf : List Request → Done → List Request
+leftOf l d = mapTo blank (λ r i. leftStep r i d) l 32
+
+abbrev pub steppedOf : Done → Stepped
+steppedOf d = record { answer = d .answer; port = d .port }
+
+-- what a call answers of a list of 32 records, and what of a list of another length
+abbrev pub on32 : {A : Type 0} → List Request → A → A → A
+on32 l a b = cond (eqb (length l) 32) a b
+
+-- 01 REFUSAL.1
+abbrev pub short : Port → Stepped
+short p = steppedOf (refusedBy p Refusal.Length)
+
+-- a setup has no port yet
+abbrev pub shortSetup : ℕ → Stepped
+shortSetup count = short noPort
+
+-- what a call that leaves d promises of its answer r and of the list
+abbrev pub Called : List Request → Done → Stepped → Stepped → List Request → Type 0
+Called l d none r after = (r ≡ on32 l (steppedOf d) none) × (after ≡ on32 l (leftOf l d) l)
+
+-- the request that phy k names
+abbrev pub onPhy : List Request → Port → ℕ → Request
+onPhy l p k = getD l (phyAt p k .slot) blank
+
+-- 01 PORT.2
+abbrev pub setupCall : List Request → ℕ → ℕ → Done
+setupCall l count loss = setupOf count loss
+
+abbrev pub submitCall : List Request → Port → Wish → Done
+submitCall l p x = submitOf p (rules p l) (roomOf l (x .head)) x
+
+abbrev pub cancelCall : List Request → Port → Withdrawn → Done
+cancelCall l p x = cancelOf p (getD l (keyOf l (x .key)) blank) (rules p l) (keyOf l (x .key)) x
+
+-- the pick of choose at a time
+abbrev pub pickAt : List Request → Port → ℕ → Pick
+pickAt l p now = chosenOf (record { phys = p .phys; now = now }) l 32
+
+abbrev pub chooseCall : List Request → Port → Moment → Done
+chooseCall l p x = chooseOf p (getD l (pickAt l p (x .now) .slot) blank) (rules p l) (pickAt l p (x .now)) (x .now)
+
+abbrev pub openedCall : List Request → Port → Confirmed → Done
+openedCall l p x = openedOf p (onPhy l p (x .phy)) (rules p l) x
+
+abbrev pub openFailedCall : List Request → Port → Failure → Done
+openFailedCall l p x = openFailedOf p (onPhy l p (x .phy)) (rules p l) x
+
+abbrev pub frameStatusCall : List Request → Port → Report → Done
+frameStatusCall l p x = frameStatusOf p (onPhy l p (x .phy)) (rules p l) x
+
+abbrev pub closedCall : List Request → Port → Confirmed → Done
+closedCall l p x = closedOf p (onPhy l p (x .phy)) (rules p l) x
+
+abbrev pub enableCall : List Request → Port → Confirmed → Done
+enableCall l p x = enableOf p (onPhy l p (x .phy)) (rules p l) x
+
+abbrev pub disableCall : List Request → Port → Confirmed → Done
+disableCall l p x = disableOf p (onPhy l p (x .phy)) (rules p l) x

@@ -1,0 +1,84 @@
+-- Document 01, 'Refusal numbers': what has to hold for a call of the port to be refused, in its words. Assumes nothing.
+use Prim.Native.Nat.{ℕ, _≤_, _<_}
+use mathlib.Core.Path.{_≡_}
+use mathlib.Core.Bool.{true, false}
+use mathlib.Core.List.{List, [], _∷_}
+use mathlib.Core.Logic.{_⊎_}
+use lib.ListN.{length, getD}
+use Rattle.refusals.specs.Causes.{Ground, _if_}
+use Rattle.refusals.specs.declared.Refusal.{Refusal}
+use Rattle.open_frame.specs.Open.{headListed}
+use Rattle.open_frame.specs.declared.Head.{Head}
+use Rattle.port_parts.specs.Parts.{blank}
+use Rattle.port_parts.specs.Reasons.{reasons}
+use Rattle.port_parts.specs.declared.Phy.{Phy}
+use Rattle.port_parts.specs.declared.Port.{Port}
+use Rattle.port_parts.specs.declared.Request.{Request}
+use Rattle.port_rules.specs.Kept.{InRange, Kept, Free, SameKey}
+use Rattle.port_core.specs.Finds.{keyOf}
+use Rattle.port_core.specs.Calls.{phyAt}
+use Rattle.port_core.specs.declared.Key.{Key}
+use Rattle.port.specs.History.{State, Call, setup, submit, cancel, choose, opened, openFailed, frameStatus, closed, enable, disable}
+
+-- a lent state breaks its rules
+abbrev pub Broken : State → Type 0
+Broken s = Kept (s .port) (s .list) → ⊥
+
+-- the list isn't 32 records long
+abbrev pub Wrong : State → Type 0
+Wrong s = length (s .list) ≡ 32 → ⊥
+
+-- a request with the destination, protocol and tag of h is present
+pub record Present (l : List Request) (h : Head) : Type 0 where
+  pub slot : ℕ
+  pub below : slot < 32
+  pub there : Free (getD l slot blank) → ⊥
+  pub same : SameKey (getD l slot blank .head) h
+
+-- 32 requests are present
+abbrev pub Full : List Request → Type 0
+Full l = (i : ℕ) → i < 32 → Free (getD l i blank) → ⊥
+
+abbrev pub HasKey : Request → Key → Type 0
+HasKey r x = (Free r → ⊥) × ((r .head .destination ≡ x .destination) × ((r .head .protocol ≡ x .protocol) × (r .head .tag ≡ x .tag)))
+
+-- no request has the key
+abbrev pub Absent : List Request → Key → Type 0
+Absent l x = (i : ℕ) → i < 32 → HasKey (getD l i blank) x → ⊥
+
+-- with a frame out; connected or closing
+abbrev pub FrameOut : Phy → Type 0
+FrameOut f = (f .stage ≡ 4) ⊎ (f .stage ≡ 6)
+
+abbrev pub Joined : Phy → Type 0
+Joined f = ((f .stage ≡ 3) ⊎ (f .stage ≡ 4)) ⊎ ((f .stage ≡ 5) ⊎ (f .stage ≡ 6))
+
+abbrev pub phyGrounds : State → ℕ → ℕ → Type 0 → List Ground
+phyGrounds s k now unfit =
+    (Refusal.Rules if Broken s) ∷ (Refusal.Phy if (k < s .port .count → ⊥)) ∷ (Refusal.Past if (now < s .port .last)) ∷ (Refusal.Unfit if unfit) ∷ []
+
+abbrev pub groundsOf : Call → State → List Ground
+groundsOf (setup count loss) s = (Refusal.Length if Wrong s) ∷ (Refusal.Rules if (InRange count loss → ⊥)) ∷ []
+groundsOf (submit x) s =
+    (Refusal.Length if Wrong s)
+    ∷ (Refusal.Unlisted if (headListed (x .head) ≡ true → ⊥))
+    ∷ (Refusal.Rules if Broken s)
+    ∷ (Refusal.Past if (x .now < s .port .last))
+    ∷ (Refusal.Present if Present (s .list) (x .head))
+    ∷ (Refusal.Full if Full (s .list))
+    ∷ []
+groundsOf (cancel x) s =
+    (Refusal.Length if Wrong s)
+    ∷ (Refusal.Unlisted if (x .key .protocol < 3 → ⊥))
+    ∷ (Refusal.Rules if Broken s)
+    ∷ (Refusal.Past if (x .now < s .port .last))
+    ∷ (Refusal.Unfit if (Absent (s .list) (x .key) ⊎ (getD (s .list) (keyOf (s .list) (x .key)) blank .cancelled ≡ 1)))
+    ∷ []
+groundsOf (choose x) s = (Refusal.Length if Wrong s) ∷ (Refusal.Rules if Broken s) ∷ (Refusal.Past if (x .now < s .port .last)) ∷ []
+groundsOf (opened x) s = (Refusal.Length if Wrong s) ∷ phyGrounds s (x .phy) (x .now) (phyAt (s .port) (x .phy) .stage ≡ 2 → ⊥)
+groundsOf (openFailed x) s =
+    (Refusal.Length if Wrong s) ∷ (Refusal.Unlisted if (x .why < length reasons → ⊥)) ∷ phyGrounds s (x .phy) (x .now) (phyAt (s .port) (x .phy) .stage ≡ 2 → ⊥)
+groundsOf (frameStatus x) s = (Refusal.Length if Wrong s) ∷ phyGrounds s (x .phy) (x .now) (FrameOut (phyAt (s .port) (x .phy)) → ⊥)
+groundsOf (closed x) s = (Refusal.Length if Wrong s) ∷ phyGrounds s (x .phy) (x .now) (Joined (phyAt (s .port) (x .phy)) → ⊥)
+groundsOf (enable x) s = (Refusal.Length if Wrong s) ∷ phyGrounds s (x .phy) (x .now) (phyAt (s .port) (x .phy) .stage ≡ 0 → ⊥)
+groundsOf (disable x) s = (Refusal.Length if Wrong s) ∷ phyGrounds s (x .phy) (x .now) (phyAt (s .port) (x .phy) .stage ≡ 0)

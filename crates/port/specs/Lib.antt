@@ -1,0 +1,5 @@
+-- Document 01, 'Port': its ten calls over the lent list.
+pub mod Calls
+pub mod Scans
+pub mod History
+pub mod Grounds

@@ -1,0 +1,40 @@
+use borrow.Author.Needs.{needs}
+use Rattle.port_core.proofs.framed.Statement.{statement}
+use Rattle.port_core.proofs.framed.Tie as tie
+
+byte-if-requires : tie.Need-byte-if-requires
+byte-if-requires c κs = search needs
+
+staged-requires : tie.Need-staged-requires
+staged-requires c κs = search needs
+
+with-phy-requires : tie.Need-with-phy-requires
+with-phy-requires c κs = search needs
+
+word-if-requires : tie.Need-word-if-requires
+word-if-requires c κs = search needs
+
+freed-requires : tie.Need-freed-requires
+freed-requires c κs = search needs
+
+no-loss-requires : tie.Need-no-loss-requires
+no-loss-requires c κs = search needs
+
+told-requires : tie.Need-told-requires
+told-requires c κs = search needs
+
+returns : tie.Need-returns
+returns c = rw (c .told .ensures, c .before .no-loss .ensures, c .before .before .freed .ensures, c .before .before .before .word-if .ensures, c .before .before .before .before .before .with-phy .ensures, c .before .before .before .before .before .before .staged .ensures, c .before .before .before .before .before .before .before .byte-if .ensures)
+
+pub framed-spec : {M : Type 1} → statement M
+framed-spec =
+    tie.close
+    (tie.spec
+    byte-if-requires
+    staged-requires
+    with-phy-requires
+    word-if-requires
+    freed-requires
+    no-loss-requires
+    told-requires
+    returns)

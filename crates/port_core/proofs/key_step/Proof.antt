@@ -1,0 +1,15 @@
+use borrow.Author.Needs.{needs}
+use Rattle.port_core.proofs.key_step.Statement.{statement}
+use Rattle.port_core.proofs.key_step.Tie as tie
+
+slot-requires : tie.Need-slot-requires
+slot-requires c κs = search needs
+
+byte-if-requires : tie.Need-byte-if-requires
+byte-if-requires c κs = search needs
+
+returns : tie.Need-returns
+returns c = rw (c .byte-if .ensures, c .before .before .slot .ensures)
+
+pub key-step-spec : {M : Type 1} → statement M
+key-step-spec = tie.close (tie.spec slot-requires byte-if-requires returns)

@@ -1,0 +1,12 @@
+use borrow.Author.Needs.{needs}
+use Rattle.port_core.proofs.no_room.Statement.{statement}
+use Rattle.port_core.proofs.no_room.Tie as tie
+
+no-stamp-requires : tie.Need-no-stamp-requires
+no-stamp-requires c κs = search needs
+
+returns : tie.Need-returns
+returns c = rw (c .no-stamp .ensures)
+
+pub no-room-spec : {M : Type 1} → statement M
+no-room-spec = tie.close (tie.spec no-stamp-requires returns)

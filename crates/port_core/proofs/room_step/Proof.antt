@@ -1,0 +1,18 @@
+use borrow.Author.Needs.{needs}
+use Rattle.port_core.proofs.room_step.Statement.{statement}
+use Rattle.port_core.proofs.room_step.Tie as tie
+
+slot-requires : tie.Need-slot-requires
+slot-requires c κs = search needs
+
+byte-if-requires : tie.Need-byte-if-requires
+byte-if-requires c κs = search needs
+
+stamp-if-requires : tie.Need-stamp-if-requires
+stamp-if-requires c κs = search needs
+
+returns : tie.Need-returns
+returns c = rw (c .stamp-if .ensures, c .before .before .before .before .before .byte-if .ensures, c .before .before .before .before .before .before .before .slot .ensures)
+
+pub room-step-spec : {M : Type 1} → statement M
+room-step-spec = tie.close (tie.spec slot-requires byte-if-requires stamp-if-requires returns)

@@ -1,0 +1,12 @@
+use borrow.Author.Needs.{needs}
+use Rattle.port_core.proofs.submitted.Statement.{statement}
+use Rattle.port_core.proofs.submitted.Tie as tie
+
+no-stamp-requires : tie.Need-no-stamp-requires
+no-stamp-requires c κs = search needs
+
+returns : tie.Need-returns
+returns c = rw (c .before .before .no-stamp .ensures)
+
+pub submitted-spec : {M : Type 1} → statement M
+submitted-spec = tie.close (tie.spec no-stamp-requires returns)

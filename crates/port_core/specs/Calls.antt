@@ -1,0 +1,307 @@
+-- Document 01, 'Port': each call, on the record that it is about and on numbers. `kept` is whether the lent state keeps its
+-- rules. Assumes nothing.
+use Prim.Native.Nat.{ℕ, _+_, _-_, min}
+use mathlib.Core.Bool.{Bool, true, false, not, cond, _&&_, _||_}
+use mathlib.Core.List.{List, [], _∷_}
+use lib.Dec.{eqb, leb, ltb}
+use lib.ListN.{getD}
+use Rattle.refusals.specs.Causes.{Cause, _when_, refuse}
+use Rattle.refusals.specs.declared.Refusal.{Refusal}
+use Rattle.open_frame.specs.Open.{headListed}
+use Rattle.open_frame.specs.Wait.{awtOf}
+use Rattle.open_frame.specs.declared.Awt.{Awt}
+use Rattle.open_frame.specs.declared.Head.{Head}
+use Rattle.open_frame.specs.declared.Pbc.{Pbc}
+use Rattle.port_parts.specs.Parts.{none, stamped, isSet, off, noPhy, isDisabled, isOpening, isIdle, isSending, isClosing, isClosingSending, blank, isWaiting, isSsp}
+use Rattle.port_parts.specs.Reasons.{reasonOf, isListed, isRetried, isBlocked, isStarting, isStopping}
+use Rattle.port_parts.specs.Timer.{timerBy, isLost}
+use Rattle.port_parts.specs.declared.Phy.{Phy}
+use Rattle.port_parts.specs.declared.Pick.{Pick}
+use Rattle.port_parts.specs.declared.Port.{Port}
+use Rattle.port_parts.specs.declared.Reason.{Reason}
+use Rattle.port_parts.specs.declared.Request.{Request}
+use Rattle.port_parts.specs.declared.Stamp.{Stamp}
+use Rattle.port_rules.specs.Rules.{inRange, names, hasFrameOut}
+use Rattle.port_core.specs.Answers.{noFrame, nameless, later, withPhy, fresh, noPort, idlePhy, openingPhy, joinedPhy, stagedPhy, unchanged, lossBy, told, refusedBy}
+use Rattle.port_core.specs.declared.Word.{Word}
+use Rattle.port_core.specs.declared.Word.the-variants.{Taken, Submitted, Nothing, Send, Open, Close, StopArb, Retried, Waiting, CancelAcknowledged, Ended, NexusLoss, ConnectionLost, Status}
+use Rattle.port_core.specs.declared.Room.{Room}
+use Rattle.port_core.specs.declared.Wish.{Wish}
+use Rattle.port_core.specs.declared.Key.{Key}
+use Rattle.port_core.specs.declared.Withdrawn.{Withdrawn}
+use Rattle.port_core.specs.declared.Confirmed.{Confirmed}
+use Rattle.port_core.specs.declared.Failure.{Failure}
+use Rattle.port_core.specs.declared.Report.{Report}
+use Rattle.port_core.specs.declared.Done.{Done}
+use Rattle.port_core.specs.declared.Checked.{Checked}
+
+-- a record with these in place of its own
+abbrev pub placed : Request → ℕ → ℕ → Request
+placed r stage phy =
+    record {
+      stage = stage;
+      phy = phy;
+      cancelled = r .cancelled;
+      closed = r .closed;
+      pbc = r .pbc;
+      awt = r .awt;
+      head = r .head;
+      submitted = r .submitted;
+      retry = r .retry;
+      first = r .first;
+      loss = r .loss;
+    }
+
+abbrev pub marked : Request → ℕ → ℕ → Request
+marked r cancelled closed =
+    record {
+      stage = r .stage;
+      phy = r .phy;
+      cancelled = cancelled;
+      closed = closed;
+      pbc = r .pbc;
+      awt = r .awt;
+      head = r .head;
+      submitted = r .submitted;
+      retry = r .retry;
+      first = r .first;
+      loss = r .loss;
+    }
+
+abbrev pub waited : Request → Pbc → Awt → Stamp → Stamp → Request
+waited r pbc awt retry first =
+    record {
+      stage = r .stage;
+      phy = r .phy;
+      cancelled = r .cancelled;
+      closed = r .closed;
+      pbc = pbc;
+      awt = awt;
+      head = r .head;
+      submitted = r .submitted;
+      retry = retry;
+      first = first;
+      loss = r .loss;
+    }
+
+abbrev pub timed : Request → Stamp → Request
+timed r loss =
+    record {
+      stage = r .stage;
+      phy = r .phy;
+      cancelled = r .cancelled;
+      closed = r .closed;
+      pbc = r .pbc;
+      awt = r .awt;
+      head = r .head;
+      submitted = r .submitted;
+      retry = r .retry;
+      first = r .first;
+      loss = loss;
+    }
+
+abbrev pub isCancelled : Request → Bool
+isCancelled r = eqb (r .cancelled) 1
+
+-- the phy with number k
+abbrev pub phyAt : Port → ℕ → Phy
+phyAt p k = getD (p .phys) k noPhy
+
+-- an answer that names nothing; no record is stored, or all are cleared
+abbrev pub bare : Port → Word → Bool → Done
+bare p w cleared = record { port = p; answer = nameless w; entry = blank; loss = unchanged; cleared = cleared }
+
+-- what a call leaves that was checked
+abbrev pub given : Checked → Port → Done → Done
+given Checked.Passed p d = d
+given (Checked.Refused k) p d = refusedBy p k
+
+-- ---- setup
+
+unfoldable pub setupOf : ℕ → ℕ → Done
+setupOf count loss =
+    refuse (refusedBy noPort) ((Refusal.Rules when not (inRange count loss)) ∷ [])
+    (bare (fresh count loss) Taken true)
+
+-- ---- submit
+
+abbrev pub submitCauses : Port → Bool → Room → Wish → List Cause
+submitCauses p kept v x =
+    (Refusal.Unlisted when not (headListed (x .head)))
+    ∷ (Refusal.Rules when not kept)
+    ∷ (Refusal.Past when ltb (x .now) (p .last))
+    ∷ (Refusal.Present when v .same)
+    ∷ (Refusal.Full when leb 32 (v .free))
+    ∷ []
+
+-- a request as submit leaves it: waiting, with nothing behind it but its destination's loss timer
+abbrev pub submitted : Room → Wish → Request
+submitted v x =
+    record {
+      stage = 1;
+      phy = 0;
+      cancelled = 0;
+      closed = 0;
+      pbc = record { 0 = 0 };
+      awt = record { 0 = 0 };
+      head = x .head;
+      submitted = x .now;
+      retry = none;
+      first = none;
+      loss = v .loss;
+    }
+
+unfoldable pub submitOf : Port → Bool → Room → Wish → Done
+submitOf p kept v x =
+    refuse (refusedBy p) (submitCauses p kept v x) (told (later p (x .now)) Submitted (v .free) 8 (submitted v x) (submitted v x) unchanged)
+
+-- ---- cancel
+
+-- 01 REFUSAL.14
+abbrev pub cancelCauses : Port → Request → Bool → ℕ → Withdrawn → List Cause
+cancelCauses p r kept s x =
+    (Refusal.Unlisted when not (ltb (x .key .protocol) 3))
+    ∷ (Refusal.Rules when not kept)
+    ∷ (Refusal.Past when ltb (x .now) (p .last))
+    ∷ (Refusal.Unfit when (leb 32 s || isCancelled r))
+    ∷ []
+
+-- a connected phy whose request is cancelled closes, with its frame out
+abbrev pub closedPhy : Phy → Phy
+closedPhy f = stagedPhy (cond (isSending f) 6 (f .stage)) (f .slot) f
+
+-- 01 PORT.23: Cancel of a waiting request ends it (Cancel Acknowledged); in progress: Stop Arb while opening, Close while connected; Opened after that gives Close; any end, retry, closing or disabling then is Cancel Acknowledged.
+unfoldable pub cancelled : Port → Request → ℕ → ℕ → Done
+cancelled p r s now =
+    cond (isWaiting r) (told (later p now) CancelAcknowledged s 8 r blank unchanged)
+    (told (withPhy p (r .phy) (closedPhy (phyAt p (r .phy))) now) (cond (isOpening (phyAt p (r .phy))) StopArb Close) s (r .phy) r (marked r 1 (r .closed)) unchanged)
+
+unfoldable pub cancelOf : Port → Request → Bool → ℕ → Withdrawn → Done
+cancelOf p r kept s x = refuse (refusedBy p) (cancelCauses p r kept s x) (cancelled p r s (x .now))
+
+-- ---- choose
+
+abbrev pub chooseCauses : Port → Bool → ℕ → List Cause
+chooseCauses p kept now = (Refusal.Rules when not kept) ∷ (Refusal.Past when ltb now (p .last)) ∷ []
+
+abbrev pub sent : Port → Request → Pick → ℕ → Done
+sent p r b now = told (withPhy p (b .phy) (stagedPhy 4 (b .slot) (phyAt p (b .phy))) now) Send (b .slot) (b .phy) r (placed r 2 (b .phy)) unchanged
+
+-- 01 PORT.16: Open carries AWT since the request's first open after its last reset, and its PBC.
+abbrev pub firstOpen : Request → ℕ → Stamp
+firstOpen r now = cond (isSet (r .first)) (r .first) (stamped now)
+
+abbrev pub waitSince : Request → ℕ → Awt
+waitSince r now = awtOf (now - firstOpen r now .at)
+
+abbrev pub opening : Port → Request → Pick → ℕ → Done
+opening p r b now =
+    record {
+      port = withPhy p (b .phy) (openingPhy (b .slot)) now;
+      answer = record { word = Open; slot = b .slot; phy = b .phy; frame = record { head = r .head; pbc = r .pbc; awt = waitSince r now } };
+      entry = waited (placed r 2 (b .phy)) (r .pbc) (waitSince r now) (r .retry) (firstOpen r now);
+      loss = unchanged;
+      cleared = false;
+    }
+
+abbrev pub closing : Port → Request → Pick → ℕ → Done
+closing p r b now = told (withPhy p (b .phy) (stagedPhy 5 32 (phyAt p (b .phy))) now) Close (b .slot) (b .phy) r (marked r (r .cancelled) 1) unchanged
+
+abbrev pub idle : Port → ℕ → Done
+idle p now = bare (later p now) Nothing false
+
+unfoldable pub chosen : Port → Request → Pick → ℕ → Done
+chosen p r b now =
+    cond (eqb (b .step) 1) (sent p r b now) (cond (eqb (b .step) 2) (opening p r b now) (cond (eqb (b .step) 3) (closing p r b now) (idle p now)))
+
+unfoldable pub chooseOf : Port → Request → Bool → Pick → ℕ → Done
+chooseOf p r kept b now = refuse (refusedBy p) (chooseCauses p kept now) (chosen p r b now)
+
+-- ---- a phy's calls: f is the phy, r the request that it names
+
+abbrev pub phyCauses : Port → Bool → ℕ → ℕ → Bool → List Cause
+phyCauses p kept k now unfit =
+    (Refusal.Rules when not kept) ∷ (Refusal.Phy when not (ltb k (p .count))) ∷ (Refusal.Past when ltb now (p .last)) ∷ (Refusal.Unfit when unfit) ∷ []
+
+-- 01 PORT.17: Opened: the frame goes.
+abbrev pub connected : Port → Phy → Request → Confirmed → Done
+connected p f r x =
+    told (withPhy p (x .phy) (joinedPhy (cond (isCancelled r) 5 4) (f .slot) (r .head)) (x .now)) (cond (isCancelled r) Close Send) (f .slot) (x .phy) r
+    (timed r (cond (isSsp (r .head)) none (r .loss))) (lossBy r none)
+
+-- 01 REFUSAL.14: Opened or Open Failed, phy not opening; frame status, no frame out; Closed, neither connected nor closing; enabling an enabled or disabling a disabled phy; Cancel of a request absent or already cancelled.
+unfoldable pub openedOf : Port → Request → Bool → Confirmed → Done
+openedOf p r kept x = refuse (refusedBy p) (phyCauses p kept (x .phy) (x .now) (not (isOpening (phyAt p (x .phy))))) (connected p (phyAt p (x .phy)) r x)
+
+-- 01 PORT.19: Pathway Blocked keeps the wait running and adds 1 to its PBC, up to 255; the other retries reset both.
+abbrev pub oneMore : Pbc → Pbc
+oneMore n = record { 0 = min (n .0 + 1) 255 }
+
+abbrev pub again : Request → Reason → ℕ → Stamp → Request
+again r why now t =
+    timed
+    (waited (placed r 1 0) (cond (isBlocked why) (oneMore (r .pbc)) (record { 0 = 0 })) (cond (isBlocked why) (r .awt) (record { 0 = 0 })) (stamped now)
+    (cond (isBlocked why) (r .first) none)) t
+
+-- the destination's timer after the confirmation
+abbrev pub timerAfter : Request → Reason → ℕ → Stamp
+timerAfter r why now = cond (isSsp (r .head)) (timerBy (isStopping why) (isStarting why) (r .loss) now) (r .loss)
+
+-- Cancel Acknowledged comes before a reason that ends, and that before I_T Nexus Loss
+abbrev pub failedWord : Port → Request → Reason → ℕ → Word
+failedWord p r why now =
+    cond (isCancelled r) CancelAcknowledged
+    (cond (not (isRetried why)) (Ended why) (cond (isSsp (r .head) && isLost (timerAfter r why now) (p .loss) now) NexusLoss Retried))
+
+abbrev pub isAgain : Port → Request → Reason → ℕ → Bool
+isAgain p r why now = not (isCancelled r) && (isRetried why && not (isSsp (r .head) && isLost (timerAfter r why now) (p .loss) now))
+
+abbrev pub failed : Port → Phy → Request → Reason → ℕ → ℕ → Done
+failed p f r why k now =
+    told (withPhy p k idlePhy now) (failedWord p r why now) (f .slot) k r (cond (isAgain p r why now) (again r why now (timerAfter r why now)) blank)
+    (lossBy r (timerAfter r why now))
+
+abbrev pub failedCauses : Port → Bool → Failure → Bool → List Cause
+failedCauses p kept x unfit = (Refusal.Unlisted when not (isListed (reasonOf (x .why)))) ∷ phyCauses p kept (x .phy) (x .now) unfit
+
+unfoldable pub openFailedOf : Port → Request → Bool → Failure → Done
+openFailedOf p r kept x =
+    refuse (refusedBy p) (failedCauses p kept x (not (isOpening (phyAt p (x .phy)))))
+    (failed p (phyAt p (x .phy)) r (reasonOf (x .why)) (x .phy) (x .now))
+
+-- 01 PORT.20: Frame status (a byte, handed on): request ends, phy idle; a closing one stays closing.
+abbrev pub framed : Port → Phy → Request → Report → Done
+framed p f r x =
+    told (withPhy p (x .phy) (stagedPhy (cond (isSending f) 3 5) 32 f) (x .now)) (cond (isCancelled r) CancelAcknowledged (Status (x .status))) (f .slot) (x .phy) r
+    blank unchanged
+
+unfoldable pub frameStatusOf : Port → Request → Bool → Report → Done
+frameStatusOf p r kept x =
+    refuse (refusedBy p) (phyCauses p kept (x .phy) (x .now) (not (hasFrameOut (phyAt p (x .phy))))) (framed p (phyAt p (x .phy)) r x)
+
+abbrev pub isJoined : Phy → Bool
+isJoined f = (isIdle f || isSending f) || (isClosing f || isClosingSending f)
+
+-- 01 PORT.21: Closed: phy free, its request ends as connection lost.
+abbrev pub closedDone : Port → Phy → Request → Confirmed → Done
+closedDone p f r x =
+    told (withPhy p (x .phy) idlePhy (x .now)) (cond (names f) (cond (isCancelled r) CancelAcknowledged ConnectionLost) Taken) (f .slot) (x .phy) r blank unchanged
+
+unfoldable pub closedOf : Port → Request → Bool → Confirmed → Done
+closedOf p r kept x =
+    refuse (refusedBy p) (phyCauses p kept (x .phy) (x .now) (not (isJoined (phyAt p (x .phy))))) (closedDone p (phyAt p (x .phy)) r x)
+
+unfoldable pub enableOf : Port → Request → Bool → Confirmed → Done
+enableOf p r kept x =
+    refuse (refusedBy p) (phyCauses p kept (x .phy) (x .now) (not (isDisabled (phyAt p (x .phy)))))
+    (told (withPhy p (x .phy) idlePhy (x .now)) Taken 32 (x .phy) r blank unchanged)
+
+-- 01 PORT.22: A disabled phy's request waits again, wait and PBC kept.
+abbrev pub disabledDone : Port → Phy → Request → Confirmed → Done
+disabledDone p f r x =
+    told (withPhy p (x .phy) off (x .now)) (cond (names f) (cond (isCancelled r) CancelAcknowledged Waiting) Taken) (f .slot) (x .phy) r
+    (cond (isCancelled r) blank (placed r 1 0)) unchanged
+
+unfoldable pub disableOf : Port → Request → Bool → Confirmed → Done
+disableOf p r kept x =
+    refuse (refusedBy p) (phyCauses p kept (x .phy) (x .now) (isDisabled (phyAt p (x .phy)))) (disabledDone p (phyAt p (x .phy)) r x)

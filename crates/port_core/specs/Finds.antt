@@ -1,0 +1,38 @@
+-- Document 01, 'Port': what submit and cancel look for in the list, one record at a time. Assumes nothing.
+use Prim.Native.Nat.{ℕ, min}
+use mathlib.Core.Bool.{Bool, false, not, cond, _&&_, _||_}
+use mathlib.Core.List.{List}
+use lib.Dec.{eqb}
+use Rattle.laws.specs.Folds.{foldTo}
+use Rattle.open_frame.specs.declared.Head.{Head}
+use Rattle.port_parts.specs.Parts.{none, blank, isFree}
+use Rattle.port_parts.specs.declared.Request.{Request}
+use Rattle.port_rules.specs.Rules.{sameKey, sameNexus}
+use Rattle.port_core.specs.declared.Room.{Room}
+use Rattle.port_core.specs.declared.Key.{Key}
+
+-- submit looks for the lowest free slot, the same key, and the loss timer of the destination
+abbrev pub noRoom : Room
+noRoom = record { free = 32; same = false; loss = none }
+
+abbrev pub roomStep : Room → Request → ℕ → Head → Room
+roomStep a r i h =
+    record {
+      free = cond (eqb (a .free) 32 && isFree r) (min i 32) (a .free);
+      same = a .same || (not (isFree r) && sameKey (r .head) h);
+      loss = cond (not (isFree r) && sameNexus (r .head) h) (r .loss) (a .loss);
+    }
+
+abbrev pub roomOf : List Request → Head → Room
+roomOf l h = foldTo blank (λ a r i. roomStep a r i h) noRoom l 32
+
+-- cancel looks for the request with a key
+abbrev pub hasKey : Request → Key → Bool
+hasKey r x =
+    not (isFree r) && (eqb (r .head .destination) (x .destination) && (eqb (r .head .protocol) (x .protocol) && eqb (r .head .tag) (x .tag)))
+
+abbrev pub keyStep : ℕ → Request → ℕ → Key → ℕ
+keyStep a r i x = cond (eqb a 32 && hasKey r x) (min i 32) a
+
+abbrev pub keyOf : List Request → Key → ℕ
+keyOf l x = foldTo blank (λ a r i. keyStep a r i x) 32 l 32

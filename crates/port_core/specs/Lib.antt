@@ -1,0 +1,4 @@
+-- Document 01, 'Port': its ten calls on one record and numbers.
+pub mod Answers
+pub mod Finds
+pub mod Calls

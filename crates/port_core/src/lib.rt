@@ -1,0 +1,891 @@
+// Document 01, 'Port': the ten calls, each on the record that it is about and on numbers. The crate above finds the record in the
+// lent list and stores it there.
+ghost use mathlib.Core.Path.{_≡_};
+ghost use mathlib.Core.Bool.{cond};
+ghost use Prim.Native.Nat.{_-_};
+ghost use lib.ListN.{length};
+ghost use Rattle.refusals.specs.Causes.{refuse};
+ghost use Rattle.port_core.specs.Answers.{noFrame, naming, nameless, later, withPhy, fresh, noPort, idlePhy, stagedPhy, joinedPhy, unchanged, lossBy, told, refusedBy};
+ghost use Rattle.port_core.specs.Finds.{noRoom, roomStep, keyStep};
+ghost use Rattle.port_core.specs.Calls.{phyAt, placed, marked, waited, timed, submitted, submitCauses, cancelCauses, chooseCauses, phyCauses, setupOf, submitOf, cancelOf, chooseOf, openedOf, openFailedOf, frameStatusOf, closedOf, enableOf, disableOf};
+ghost use Rattle.port_core.specs.Calls as calls;
+ghost use Rattle.port_core.specs.declared.Checked.{Checked};
+use open_frame::Awt;
+use open_frame::Head;
+use open_frame::OpenFrame;
+use open_frame::Pbc;
+use port_parts::Phy;
+use port_parts::Pick;
+use port_parts::Port;
+use port_parts::Reason;
+use port_parts::Request;
+use port_parts::Stamp;
+use refusals::Refusal;
+
+// What a call answers, in document 01's words.
+pub enum Word {
+    // The call was taken, and says nothing of a request.
+    Taken,
+    // The request is in the list.
+    Submitted,
+    // No request and phy qualify.
+    Nothing,
+    // The frame goes.
+    Send,
+    Open,
+    Close,
+    StopArb,
+    // Open Failed; the request waits, and not less than 15 microseconds.
+    Retried,
+    // The phy was disabled; the request waits again.
+    Waiting,
+    // From here on, the last word on a request.
+    CancelAcknowledged,
+    // Open Failed with a reason that isn't retried.
+    Ended(Reason),
+    // I_T Nexus Loss.
+    NexusLoss,
+    ConnectionLost,
+    // The frame's status, as it came.
+    Status(u8),
+    Refused(Refusal),
+}
+
+pub struct Answer {
+    pub word: Word,
+    // The request that it names: its slot, 32 if it names none.
+    pub slot: u8,
+    // The phy that it names, 8 if it names none.
+    pub phy: u8,
+    // The request's head, and with it its key; an Open's whole frame.
+    pub frame: OpenFrame,
+}
+
+// A loss timer that changes.
+pub struct Loss {
+    pub change: bool,
+    // Every SSP request to it gets the timer.
+    pub destination: u64,
+    pub timer: Stamp,
+}
+
+// What a call leaves: the port, the answer, the record at the answer's slot, and a loss timer.
+pub struct Done {
+    pub port: Port,
+    pub answer: Answer,
+    pub entry: Request,
+    pub loss: Loss,
+    // Whether every record of the list is set free.
+    pub cleared: bool,
+}
+
+// What submit finds in the list.
+pub struct Room {
+    // The lowest free slot, 32 if there is none.
+    pub free: u8,
+    // Whether a request with its key is present.
+    pub same: bool,
+    // The loss timer of its destination.
+    pub loss: Stamp,
+}
+
+// What a submit gives.
+pub struct Wish {
+    pub head: Head,
+    pub now: u64,
+}
+
+pub struct Key {
+    pub destination: u64,
+    pub protocol: u8,
+    pub tag: u16,
+}
+
+// What a cancel gives.
+pub struct Withdrawn {
+    pub key: Key,
+    pub now: u64,
+}
+
+// What a call about a phy gives.
+pub struct Confirmed {
+    pub phy: u8,
+    pub now: u64,
+}
+
+// What an Open Failed gives.
+pub struct Failure {
+    pub phy: u8,
+    // The reason's number.
+    pub why: u8,
+    pub now: u64,
+}
+
+// What a frame status gives.
+pub struct Report {
+    pub phy: u8,
+    pub status: u8,
+    pub now: u64,
+}
+
+// Whether a call goes on.
+enum Checked {
+    Passed,
+    Refused(Refusal),
+}
+
+fn word_if(t: bool, a: Word, b: Word) -> Word
+    ensures { λ r. ⌜ r ≡ cond t a b ⌝ }
+{
+    if t { a } else { b }
+}
+
+fn byte_if(t: bool, a: u8, b: u8) -> u8
+    ensures { λ r. ⌜ r ≡ cond t a b ⌝ }
+{
+    if t { a } else { b }
+}
+
+fn stamp_if(t: bool, a: Stamp, b: Stamp) -> Stamp
+    ensures { λ r. ⌜ r ≡ cond t a b ⌝ }
+{
+    if t { a } else { b }
+}
+
+fn request_if(t: bool, a: Request, b: Request) -> Request
+    ensures { λ r. ⌜ r ≡ cond t a b ⌝ }
+{
+    if t { a } else { b }
+}
+
+fn no_frame() -> OpenFrame
+    ensures { λ r. ⌜ r ≡ noFrame ⌝ }
+{
+    OpenFrame {
+        head: Head {
+            initiator: 0,
+            protocol: 0,
+            features: 0,
+            rate: 0,
+            tag: 0,
+            destination: 0,
+            source: 0,
+        },
+        pbc: Pbc(0),
+        awt: Awt(0),
+    }
+}
+
+fn nameless(word: Word) -> Answer
+    ensures { λ r. ⌜ r ≡ nameless word ⌝ }
+{
+    let frame = no_frame();
+    Answer {
+        word,
+        slot: 32,
+        phy: 8,
+        frame,
+    }
+}
+
+fn no_loss() -> Loss
+    ensures { λ r. ⌜ r ≡ unchanged ⌝ }
+{
+    let timer = port_parts::no_stamp();
+    Loss {
+        change: false,
+        destination: 0,
+        timer,
+    }
+}
+
+// The timer of r's destination is t from now on.
+fn loss_by(r: Request, t: Stamp) -> Loss
+    ensures { λ a. ⌜ a ≡ lossBy r t ⌝ }
+{
+    Loss {
+        change: (r.head.protocol == 1) & !(r.loss.set == t.set),
+        destination: r.head.destination,
+        timer: t,
+    }
+}
+
+// The answer that names request r and phy k, and the record that is stored.
+fn told(port: Port, word: Word, slot: u8, phy: u8, r: Request, entry: Request, loss: Loss) -> Done
+    ensures { λ d. ⌜ d ≡ told port word slot phy r entry loss ⌝ }
+{
+    let head = r.head;
+    let frame = OpenFrame {
+        head,
+        pbc: Pbc(0),
+        awt: Awt(0),
+    };
+    let answer = Answer {
+        word,
+        slot,
+        phy,
+        frame,
+    };
+    Done {
+        port,
+        answer,
+        entry,
+        loss,
+        cleared: false,
+    }
+}
+
+// An answer that names nothing; no record is stored, or all are cleared.
+fn bare(port: Port, word: Word, cleared: bool) -> Done
+    ensures { λ d. ⌜ d ≡ calls.bare port word cleared ⌝ }
+{
+    let answer = nameless(word);
+    let entry = port_parts::freed();
+    let loss = no_loss();
+    Done {
+        port,
+        answer,
+        entry,
+        loss,
+        cleared,
+    }
+}
+
+// The port as it was.
+pub fn refused(port: Port, k: Refusal) -> Done
+    ensures { λ d. ⌜ d ≡ refusedBy port k ⌝ }
+{
+    bare(port, Word::Refused(k), false)
+}
+
+// What a call leaves that was checked.
+fn given(c: Checked, p: Port, d: Done) -> Done
+    ensures { λ r. ⌜ r ≡ calls.given c p d ⌝ }
+{
+    match c {
+        Checked::Passed => d,
+        Checked::Refused(k) => refused(p, k),
+    }
+}
+
+fn later(p: Port, now: u64) -> Port
+    ensures { λ q. ⌜ q ≡ later p now ⌝ }
+{
+    let phys = p.phys;
+    Port {
+        count: p.count,
+        loss: p.loss,
+        last: now,
+        phys,
+    }
+}
+
+// The phys, of which there are eight places.
+fn eight(phys: [Phy; 8]) -> [Phy; 8]
+    ensures { λ r. ⌜ (r ≡ phys) × (length r ≡ 8) ⌝ }
+{
+    phys
+}
+
+// Phy k.
+pub fn phy_at(p: Port, k: u8) -> Phy
+    ensures { λ f. ⌜ f ≡ phyAt p k ⌝ }
+{
+    let places = p.phys;
+    let phys = eight(places);
+    let i = k as usize;
+    if i < 8 {
+        let f = phys[i];
+        return f;
+    }
+    Phy {
+        stage: 0,
+        slot: 0,
+        protocol: 0,
+        destination: 0,
+    }
+}
+
+// The port with f for its phy k, at a time.
+fn with_phy(p: Port, k: u8, f: Phy, now: u64) -> Port
+    ensures { λ q. ⌜ q ≡ withPhy p k f now ⌝ }
+{
+    let places = p.phys;
+    let mut phys = eight(places);
+    let i = k as usize;
+    if i < 8 {
+        phys[i] = f;
+        return Port {
+            count: p.count,
+            loss: p.loss,
+            last: now,
+            phys,
+        };
+    }
+    Port {
+        count: p.count,
+        loss: p.loss,
+        last: now,
+        phys,
+    }
+}
+
+fn placed(r: Request, stage: u8, phy: u8) -> Request
+    ensures { λ a. ⌜ a ≡ placed r stage phy ⌝ }
+{
+    let mut q = r;
+    q.stage = stage;
+    q.phy = phy;
+    q
+}
+
+fn marked(r: Request, cancelled: u8, closed: u8) -> Request
+    ensures { λ a. ⌜ a ≡ marked r cancelled closed ⌝ }
+{
+    let mut q = r;
+    q.cancelled = cancelled;
+    q.closed = closed;
+    q
+}
+
+fn waited(r: Request, pbc: Pbc, awt: Awt, retry: Stamp, first: Stamp) -> Request
+    ensures { λ a. ⌜ a ≡ waited r pbc awt retry first ⌝ }
+{
+    let mut q = r;
+    q.pbc = pbc;
+    q.awt = awt;
+    q.retry = retry;
+    q.first = first;
+    q
+}
+
+pub fn timed(r: Request, loss: Stamp) -> Request
+    ensures { λ a. ⌜ a ≡ timed r loss ⌝ }
+{
+    let mut q = r;
+    q.loss = loss;
+    q
+}
+
+// Before submit has looked at a record.
+pub fn no_room() -> Room
+    ensures { λ a. ⌜ a ≡ noRoom ⌝ }
+{
+    let loss = port_parts::no_stamp();
+    Room {
+        free: 32,
+        same: false,
+        loss,
+    }
+}
+
+// One record more that submit looks at.
+pub fn room_step(a: Room, r: Request, i: usize, h: Head) -> Room
+    ensures { λ v. ⌜ v ≡ roomStep a r i h ⌝ }
+{
+    let g = r.head;
+    let free = r.stage == 0;
+    let there = g.destination == h.destination;
+    let alike = g.protocol == h.protocol;
+    let slot = port_parts::slot(i);
+    Room {
+        free: byte_if((a.free == 32) & free, slot, a.free),
+        same: a.same | (!free & (there & (alike & (g.tag == h.tag)))),
+        loss: stamp_if(
+            !free & (there & (alike & (h.protocol == 1))),
+            r.loss,
+            a.loss,
+        ),
+    }
+}
+
+// One record more that cancel looks at.
+pub fn key_step(a: u8, r: Request, i: usize, x: Key) -> u8
+    ensures { λ s. ⌜ s ≡ keyStep a r i x ⌝ }
+{
+    let h = r.head;
+    let key = (h.destination == x.destination) & ((h.protocol == x.protocol) & (h.tag == x.tag));
+    let slot = port_parts::slot(i);
+    byte_if((a == 32) & (!(r.stage == 0) & key), slot, a)
+}
+
+fn fresh(count: u8, loss: u16) -> Port
+    ensures { λ p. ⌜ p ≡ fresh count loss ⌝ }
+{
+    let phy = port_parts::disabled();
+    let phys = [phy; 8];
+    Port {
+        count,
+        loss,
+        last: 0,
+        phys,
+    }
+}
+
+pub fn no_port() -> Port
+    ensures { λ p. ⌜ p ≡ noPort ⌝ }
+{
+    let phy = Phy {
+        stage: 0,
+        slot: 0,
+        protocol: 0,
+        destination: 0,
+    };
+    let phys = [phy; 8];
+    Port {
+        count: 0,
+        loss: 0,
+        last: 0,
+        phys,
+    }
+}
+
+// Every record of the list is set free with it.
+pub fn setup_core(count: u8, loss: u16) -> Done
+    ensures { λ d. ⌜ d ≡ setupOf count loss ⌝ }
+{
+    if !port_rules::in_range(count, loss) {
+        let none = no_port();
+        return refused(none, Refusal::Rules);
+    }
+    let port = fresh(count, loss);
+    bare(port, Word::Taken, true)
+}
+
+fn submit_checked(p: Port, kept: bool, v: Room, x: Wish) -> Checked
+    ensures { λ c. ⌜ c ≡ refuse Checked.Refused (submitCauses p kept v x) Checked.Passed ⌝ }
+{
+    let h = x.head;
+    if !open_frame::listed(h) {
+        return Checked::Refused(Refusal::Unlisted);
+    }
+    if !kept {
+        return Checked::Refused(Refusal::Rules);
+    }
+    if x.now < p.last {
+        return Checked::Refused(Refusal::Past);
+    }
+    if v.same {
+        return Checked::Refused(Refusal::Present);
+    }
+    if 32 <= v.free {
+        return Checked::Refused(Refusal::Full);
+    }
+    Checked::Passed
+}
+
+// A request as submit leaves it.
+fn submitted(v: Room, x: Wish) -> Request
+    ensures { λ a. ⌜ a ≡ submitted v x ⌝ }
+{
+    let none = port_parts::no_stamp();
+    let head = x.head;
+    let loss = v.loss;
+    Request {
+        stage: 1,
+        phy: 0,
+        cancelled: 0,
+        closed: 0,
+        pbc: Pbc(0),
+        awt: Awt(0),
+        head,
+        submitted: x.now,
+        retry: none,
+        first: none,
+        loss,
+    }
+}
+
+pub fn submit_core(p: Port, kept: bool, v: Room, x: Wish) -> Done
+    ensures { λ d. ⌜ d ≡ submitOf p kept v x ⌝ }
+{
+    let c = submit_checked(p, kept, v, x);
+    let r = submitted(v, x);
+    let q = later(p, x.now);
+    let loss = no_loss();
+    let d = told(q, Word::Submitted, v.free, 8, r, r, loss);
+    given(c, p, d)
+}
+
+fn cancel_checked(p: Port, r: Request, kept: bool, s: u8, x: Withdrawn) -> Checked
+    ensures { λ c. ⌜ c ≡ refuse Checked.Refused (cancelCauses p r kept s x) Checked.Passed ⌝ }
+{
+    if !(x.key.protocol < 3) {
+        return Checked::Refused(Refusal::Unlisted);
+    }
+    if !kept {
+        return Checked::Refused(Refusal::Rules);
+    }
+    if x.now < p.last {
+        return Checked::Refused(Refusal::Past);
+    }
+    if (32 <= s) | (r.cancelled == 1) {
+        return Checked::Refused(Refusal::Unfit);
+    }
+    Checked::Passed
+}
+
+// A phy in another stage, connected as before.
+fn staged(stage: u8, slot: u8, f: Phy) -> Phy
+    ensures { λ a. ⌜ a ≡ stagedPhy stage slot f ⌝ }
+{
+    Phy {
+        stage,
+        slot,
+        protocol: f.protocol,
+        destination: f.destination,
+    }
+}
+
+fn cancelled(p: Port, r: Request, s: u8, now: u64) -> Done
+    ensures { λ d. ⌜ d ≡ calls.cancelled p r s now ⌝ }
+{
+    let loss = no_loss();
+    if r.stage == 1 {
+        let q = later(p, now);
+        let free = port_parts::freed();
+        return told(q, Word::CancelAcknowledged, s, 8, r, free, loss);
+    }
+    let f = phy_at(p, r.phy);
+    let stage = byte_if(f.stage == 4, 6, f.stage);
+    let g = staged(stage, f.slot, f);
+    let q = with_phy(p, r.phy, g, now);
+    let word = word_if(f.stage == 2, Word::StopArb, Word::Close);
+    let entry = marked(r, 1, r.closed);
+    told(q, word, s, r.phy, r, entry, loss)
+}
+
+pub fn cancel_core(p: Port, r: Request, kept: bool, s: u8, x: Withdrawn) -> Done
+    ensures { λ d. ⌜ d ≡ cancelOf p r kept s x ⌝ }
+{
+    let c = cancel_checked(p, r, kept, s, x);
+    let d = cancelled(p, r, s, x.now);
+    given(c, p, d)
+}
+
+fn choose_checked(p: Port, kept: bool, now: u64) -> Checked
+    ensures { λ c. ⌜ c ≡ refuse Checked.Refused (chooseCauses p kept now) Checked.Passed ⌝ }
+{
+    if !kept {
+        return Checked::Refused(Refusal::Rules);
+    }
+    if now < p.last {
+        return Checked::Refused(Refusal::Past);
+    }
+    Checked::Passed
+}
+
+// What lies between two times.
+fn elapsed(since: u64, now: u64) -> u64
+    ensures { λ e. ⌜ e ≡ now - since ⌝ }
+{
+    if now < since { 0 } else { now - since }
+}
+
+fn sent(p: Port, r: Request, b: Pick, now: u64) -> Done
+    ensures { λ d. ⌜ d ≡ calls.sent p r b now ⌝ }
+{
+    let f = phy_at(p, b.phy);
+    let g = staged(4, b.slot, f);
+    let q = with_phy(p, b.phy, g, now);
+    let entry = placed(r, 2, b.phy);
+    let loss = no_loss();
+    told(q, Word::Send, b.slot, b.phy, r, entry, loss)
+}
+
+fn opening(p: Port, r: Request, b: Pick, now: u64) -> Done
+    ensures { λ d. ⌜ d ≡ calls.opening p r b now ⌝ }
+{
+    let g = Phy {
+        stage: 2,
+        slot: b.slot,
+        protocol: 0,
+        destination: 0,
+    };
+    let q = with_phy(p, b.phy, g, now);
+    let stamp = port_parts::stamped(now);
+    let first = stamp_if(r.first.set == 1, r.first, stamp);
+    let awt = open_frame::wait_value(elapsed(first.at, now));
+    let head = r.head;
+    let pbc = r.pbc;
+    let frame = OpenFrame { head, pbc, awt };
+    let answer = Answer {
+        word: Word::Open,
+        slot: b.slot,
+        phy: b.phy,
+        frame,
+    };
+    let on = placed(r, 2, b.phy);
+    let entry = waited(on, pbc, awt, r.retry, first);
+    let loss = no_loss();
+    Done {
+        port: q,
+        answer,
+        entry,
+        loss,
+        cleared: false,
+    }
+}
+
+fn closing(p: Port, r: Request, b: Pick, now: u64) -> Done
+    ensures { λ d. ⌜ d ≡ calls.closing p r b now ⌝ }
+{
+    let f = phy_at(p, b.phy);
+    let g = staged(5, 32, f);
+    let q = with_phy(p, b.phy, g, now);
+    let entry = marked(r, r.cancelled, 1);
+    let loss = no_loss();
+    told(q, Word::Close, b.slot, b.phy, r, entry, loss)
+}
+
+fn chosen(p: Port, r: Request, b: Pick, now: u64) -> Done
+    ensures { λ d. ⌜ d ≡ calls.chosen p r b now ⌝ }
+{
+    if b.step == 1 {
+        return sent(p, r, b, now);
+    }
+    if b.step == 2 {
+        return opening(p, r, b, now);
+    }
+    if b.step == 3 {
+        return closing(p, r, b, now);
+    }
+    let q = later(p, now);
+    bare(q, Word::Nothing, false)
+}
+
+pub fn choose_core(p: Port, r: Request, kept: bool, b: Pick, now: u64) -> Done
+    ensures { λ d. ⌜ d ≡ chooseOf p r kept b now ⌝ }
+{
+    let c = choose_checked(p, kept, now);
+    let d = chosen(p, r, b, now);
+    given(c, p, d)
+}
+
+fn phy_checked(p: Port, kept: bool, k: u8, now: u64, unfit: bool) -> Checked
+    ensures { λ c. ⌜ c ≡ refuse Checked.Refused (phyCauses p kept k now unfit) Checked.Passed ⌝ }
+{
+    if !kept {
+        return Checked::Refused(Refusal::Rules);
+    }
+    if !(k < p.count) {
+        return Checked::Refused(Refusal::Phy);
+    }
+    if now < p.last {
+        return Checked::Refused(Refusal::Past);
+    }
+    if unfit {
+        return Checked::Refused(Refusal::Unfit);
+    }
+    Checked::Passed
+}
+
+fn connected(p: Port, f: Phy, r: Request, x: Confirmed) -> Done
+    ensures { λ d. ⌜ d ≡ calls.connected p f r x ⌝ }
+{
+    let gone = r.cancelled == 1;
+    let g = Phy {
+        stage: byte_if(gone, 5, 4),
+        slot: f.slot,
+        protocol: r.head.protocol,
+        destination: r.head.destination,
+    };
+    let q = with_phy(p, x.phy, g, x.now);
+    let word = word_if(gone, Word::Close, Word::Send);
+    let none = port_parts::no_stamp();
+    let timer = stamp_if(r.head.protocol == 1, none, r.loss);
+    let entry = timed(r, timer);
+    let loss = loss_by(r, none);
+    told(q, word, f.slot, x.phy, r, entry, loss)
+}
+
+pub fn opened_core(p: Port, r: Request, kept: bool, x: Confirmed) -> Done
+    ensures { λ d. ⌜ d ≡ openedOf p r kept x ⌝ }
+{
+    let f = phy_at(p, x.phy);
+    let c = phy_checked(p, kept, x.phy, x.now, !(f.stage == 2));
+    let d = connected(p, f, r, x);
+    given(c, p, d)
+}
+
+// One more, up to 255.
+fn one_more(n: Pbc) -> Pbc
+    ensures { λ m. ⌜ m ≡ calls.oneMore n ⌝ }
+{
+    if n.0 < 255 { Pbc(n.0 + 1) } else { Pbc(255) }
+}
+
+fn pbc_if(t: bool, a: Pbc, b: Pbc) -> Pbc
+    ensures { λ r. ⌜ r ≡ cond t a b ⌝ }
+{
+    if t { a } else { b }
+}
+
+fn awt_if(t: bool, a: Awt, b: Awt) -> Awt
+    ensures { λ r. ⌜ r ≡ cond t a b ⌝ }
+{
+    if t { a } else { b }
+}
+
+// The request waits again after its open failed.
+fn again(r: Request, why: Reason, now: u64, t: Stamp) -> Request
+    ensures { λ a. ⌜ a ≡ calls.again r why now t ⌝ }
+{
+    let blocked = port_parts::is_blocked(why);
+    let waits = placed(r, 1, 0);
+    let more = one_more(r.pbc);
+    let pbc = pbc_if(blocked, more, Pbc(0));
+    let awt = awt_if(blocked, r.awt, Awt(0));
+    let retry = port_parts::stamped(now);
+    let none = port_parts::no_stamp();
+    let first = stamp_if(blocked, r.first, none);
+    let anew = waited(waits, pbc, awt, retry, first);
+    timed(anew, t)
+}
+
+// The destination's loss timer after the confirmation.
+fn timer_after(r: Request, why: Reason, now: u64) -> Stamp
+    ensures { λ t. ⌜ t ≡ calls.timerAfter r why now ⌝ }
+{
+    let stops = port_parts::is_stopping(why);
+    let starts = port_parts::is_starting(why);
+    let t = port_parts::timer_after(stops, starts, r.loss, now);
+    stamp_if(r.head.protocol == 1, t, r.loss)
+}
+
+fn failed(p: Port, f: Phy, r: Request, why: Reason, k: u8, now: u64) -> Done
+    ensures { λ d. ⌜ d ≡ calls.failed p f r why k now ⌝ }
+{
+    let q = with_phy(p, k, idle_phy(), now);
+    let t = timer_after(r, why, now);
+    let gone = r.cancelled == 1;
+    let retried = port_parts::is_retried(why);
+    let lost = (r.head.protocol == 1) & port_parts::is_lost(t, p.loss, now);
+    let last = word_if(lost, Word::NexusLoss, Word::Retried);
+    let ends = word_if(!retried, Word::Ended(why), last);
+    let word = word_if(gone, Word::CancelAcknowledged, ends);
+    let waits = again(r, why, now, t);
+    let free = port_parts::freed();
+    let entry = request_if(!gone & (retried & !lost), waits, free);
+    let loss = loss_by(r, t);
+    told(q, word, f.slot, k, r, entry, loss)
+}
+
+// An unconnected phy.
+fn idle_phy() -> Phy
+    ensures { λ f. ⌜ f ≡ idlePhy ⌝ }
+{
+    Phy {
+        stage: 1,
+        slot: 32,
+        protocol: 0,
+        destination: 0,
+    }
+}
+
+fn failed_checked(p: Port, kept: bool, x: Failure, unfit: bool) -> Checked
+    ensures { λ c. ⌜ c ≡ refuse Checked.Refused (calls.failedCauses p kept x unfit) Checked.Passed ⌝ }
+{
+    let why = port_parts::reason_of(x.why);
+    if !port_parts::is_listed(why) {
+        return Checked::Refused(Refusal::Unlisted);
+    }
+    phy_checked(p, kept, x.phy, x.now, unfit)
+}
+
+pub fn open_failed_core(p: Port, r: Request, kept: bool, x: Failure) -> Done
+    ensures { λ d. ⌜ d ≡ openFailedOf p r kept x ⌝ }
+{
+    let f = phy_at(p, x.phy);
+    let c = failed_checked(p, kept, x, !(f.stage == 2));
+    let why = port_parts::reason_of(x.why);
+    let d = failed(p, f, r, why, x.phy, x.now);
+    given(c, p, d)
+}
+
+fn framed(p: Port, f: Phy, r: Request, x: Report) -> Done
+    ensures { λ d. ⌜ d ≡ calls.framed p f r x ⌝ }
+{
+    let stage = byte_if(f.stage == 4, 3, 5);
+    let g = staged(stage, 32, f);
+    let q = with_phy(p, x.phy, g, x.now);
+    let word = word_if(
+        r.cancelled == 1,
+        Word::CancelAcknowledged,
+        Word::Status(x.status),
+    );
+    let free = port_parts::freed();
+    let loss = no_loss();
+    told(q, word, f.slot, x.phy, r, free, loss)
+}
+
+pub fn frame_status_core(p: Port, r: Request, kept: bool, x: Report) -> Done
+    ensures { λ d. ⌜ d ≡ frameStatusOf p r kept x ⌝ }
+{
+    let f = phy_at(p, x.phy);
+    let out = port_rules::has_frame_out(f);
+    let c = phy_checked(p, kept, x.phy, x.now, !out);
+    let d = framed(p, f, r, x);
+    given(c, p, d)
+}
+
+fn closed_done(p: Port, f: Phy, r: Request, x: Confirmed) -> Done
+    ensures { λ d. ⌜ d ≡ calls.closedDone p f r x ⌝ }
+{
+    let q = with_phy(p, x.phy, idle_phy(), x.now);
+    let ends = word_if(
+        r.cancelled == 1,
+        Word::CancelAcknowledged,
+        Word::ConnectionLost,
+    );
+    let word = word_if(f.slot < 32, ends, Word::Taken);
+    let free = port_parts::freed();
+    let loss = no_loss();
+    told(q, word, f.slot, x.phy, r, free, loss)
+}
+
+pub fn closed_core(p: Port, r: Request, kept: bool, x: Confirmed) -> Done
+    ensures { λ d. ⌜ d ≡ closedOf p r kept x ⌝ }
+{
+    let f = phy_at(p, x.phy);
+    let joined = ((f.stage == 3) | (f.stage == 4)) | ((f.stage == 5) | (f.stage == 6));
+    let c = phy_checked(p, kept, x.phy, x.now, !joined);
+    let d = closed_done(p, f, r, x);
+    given(c, p, d)
+}
+
+pub fn enable_core(p: Port, r: Request, kept: bool, x: Confirmed) -> Done
+    ensures { λ d. ⌜ d ≡ enableOf p r kept x ⌝ }
+{
+    let f = phy_at(p, x.phy);
+    let c = phy_checked(p, kept, x.phy, x.now, !(f.stage == 0));
+    let q = with_phy(p, x.phy, idle_phy(), x.now);
+    let free = port_parts::freed();
+    let loss = no_loss();
+    let d = told(q, Word::Taken, 32, x.phy, r, free, loss);
+    given(c, p, d)
+}
+
+fn disabled_done(p: Port, f: Phy, r: Request, x: Confirmed) -> Done
+    ensures { λ d. ⌜ d ≡ calls.disabledDone p f r x ⌝ }
+{
+    let off = port_parts::disabled();
+    let q = with_phy(p, x.phy, off, x.now);
+    let gone = r.cancelled == 1;
+    let leaves = word_if(gone, Word::CancelAcknowledged, Word::Waiting);
+    let word = word_if(f.slot < 32, leaves, Word::Taken);
+    let free = port_parts::freed();
+    let waits = placed(r, 1, 0);
+    let entry = request_if(gone, free, waits);
+    let loss = no_loss();
+    told(q, word, f.slot, x.phy, r, entry, loss)
+}
+
+pub fn disable_core(p: Port, r: Request, kept: bool, x: Confirmed) -> Done
+    ensures { λ d. ⌜ d ≡ disableOf p r kept x ⌝ }
+{
+    let f = phy_at(p, x.phy);
+    let c = phy_checked(p, kept, x.phy, x.now, f.stage == 0);
+    let d = disabled_done(p, f, r, x);
+    given(c, p, d)
+}

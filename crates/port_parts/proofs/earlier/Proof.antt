@@ -1,0 +1,11 @@
+use Rattle.port_parts.proofs.earlier.Statement.{statement}
+use Rattle.port_parts.proofs.earlier.Tie as tie
+
+returns : tie.Need-returns
+returns c = rw (c .if1 .taken)
+
+returns-2 : tie.Need-returns-2
+returns-2 c = rw (c .if1 .left)
+
+pub earlier-spec : {M : Type 1} → statement M
+earlier-spec = tie.close (tie.spec returns returns-2)

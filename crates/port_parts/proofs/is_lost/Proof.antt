@@ -1,0 +1,15 @@
+use borrow.Author.Needs.{needs}
+use Rattle.port_parts.proofs.is_lost.Statement.{statement}
+use Rattle.port_parts.proofs.is_lost.Tie as tie
+
+mul-reached : tie.Need-mul-reached
+mul-reached c = search needs
+
+reached-requires : tie.Need-reached-requires
+reached-requires c κs = search needs
+
+returns : tie.Need-returns
+returns c = rw (c .reached .ensures)
+
+pub is-lost-spec : {M : Type 1} → statement M
+is-lost-spec = tie.close (tie.spec mul-reached reached-requires returns)

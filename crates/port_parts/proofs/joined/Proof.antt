@@ -1,0 +1,52 @@
+use borrow.Author.Needs.{needs}
+use Rattle.port_parts.proofs.joined.Statement.{statement}
+use Rattle.port_parts.proofs.joined.Tie as tie
+
+reaches-requires : tie.Need-reaches-requires
+reaches-requires c κs = search needs
+
+mul-t6 : tie.Need-mul-t6
+mul-t6 c = search needs
+
+one-requires : tie.Need-one-requires
+one-requires c κs = search needs
+
+add-t9 : tie.Need-add-t9
+add-t9 c = search needs
+
+mul-t10 : tie.Need-mul-t10
+mul-t10 c = search needs
+
+one-requires-2 : tie.Need-one-requires-2
+one-requires-2 c κs = search needs
+
+add-t13 : tie.Need-add-t13
+add-t13 c = search needs
+
+mul-t14 : tie.Need-mul-t14
+mul-t14 c = search needs
+
+one-requires-3 : tie.Need-one-requires-3
+one-requires-3 c κs = search needs
+
+add-t18 : tie.Need-add-t18
+add-t18 c = search needs
+
+returns : tie.Need-returns
+returns c = rw (c .one3 .ensures .0, c .before .before .one2 .ensures .0, c .before .before .before .before .before .one .ensures .0, c .before .before .before .before .before .before .before .reaches .ensures)
+
+pub joined-spec : {M : Type 1} → statement M
+joined-spec =
+    tie.close
+    (tie.spec
+    reaches-requires
+    mul-t6
+    one-requires
+    add-t9
+    mul-t10
+    one-requires-2
+    add-t13
+    mul-t14
+    one-requires-3
+    add-t18
+    returns)

@@ -1,0 +1,31 @@
+use Rattle.port_parts.specs.Choice.{pickOf}
+use borrow.Author.Needs.{needs}
+use Rattle.port_parts.proofs.picked.Statement.{statement}
+use Rattle.port_parts.proofs.picked.Tie as tie
+
+is-ready-requires : tie.Need-is-ready-requires
+is-ready-requires c κs = search needs
+
+way-for-requires : tie.Need-way-for-requires
+way-for-requires c κs = search needs
+
+slot-requires : tie.Need-slot-requires
+slot-requires c κs = search needs
+
+returns : tie.Need-returns
+unfolding pickOf
+returns c =
+    let w = c .before in
+    rw (← w .before .before .before .is-ready .ensures, w .before .before .if1 .taken, c .slot .ensures, w .way-for .ensures)
+
+no-pick-requires : tie.Need-no-pick-requires
+no-pick-requires c κs = search needs
+
+returns-2 : tie.Need-returns-2
+unfolding pickOf
+returns-2 c = rw (← c .before .before .is-ready .ensures, c .before .if1 .left, c .no-pick .ensures)
+
+pub picked-spec : {M : Type 1} → statement M
+picked-spec =
+    tie.close
+    (tie.spec is-ready-requires way-for-requires slot-requires returns no-pick-requires returns-2)

@@ -1,0 +1,3 @@
+-- Document 01, 'Port': the rules of a lent state.
+pub mod Rules
+pub mod Kept

@@ -1,0 +1,44 @@
+-- The tests that its callees promise decide the causes in order. Assumes nothing.
+use borrow.Author.Needs.{needs}
+use Rattle.xl.specs.Steps.{receiveOf}
+use Rattle.xl.proofs.receive.Statement.{statement}
+use Rattle.xl.proofs.receive.Tie as tie
+
+read-open-requires : tie.Need-read-open-requires
+read-open-requires c κs = search needs
+
+enum-known-read : tie.Need-enum-known-read
+enum-known-read c = search needs
+
+enum-told : tie.Need-enum-told
+enum-told c = search needs
+
+why-requires : tie.Need-why-requires
+why-requires c κs = search needs
+
+refuses-requires : tie.Need-refuses-requires
+refuses-requires c κs = search needs
+
+returns : tie.Need-returns
+unfolding receiveOf
+returns c = rw (c .refuses .ensures, c .before .why .ensures, ← c .before .before .before .before .read-open .ensures, c .before .before .enum-told .given .1)
+
+step-requires : tie.Need-step-requires
+step-requires c κs = search needs
+
+returns-2 : tie.Need-returns-2
+unfolding receiveOf
+returns-2 c = rw (c .step .ensures, ← c .before .before .before .before .read-open .ensures, c .before .before .read .given .1)
+
+pub receive-spec : {M : Type 1} → statement M
+receive-spec =
+    tie.close
+    (tie.spec
+    read-open-requires
+    enum-known-read
+    enum-told
+    why-requires
+    refuses-requires
+    returns
+    step-requires
+    returns-2)

@@ -1,0 +1,2 @@
+-- The laws of XL's parts, for the crates above.
+pub mod Effects

@@ -1,0 +1,3 @@
+-- Document 01, 'XL': the parts that its table is made of.
+pub mod Parts
+pub mod Kinds
