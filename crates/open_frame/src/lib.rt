@@ -27,6 +27,7 @@ pub struct Head {
 }
 
 // 01 OPEN.8: An arbitration wait and a blocked count are kept apart.
+// 01 FORM.7: Two tuple structs for AWT and PBC, the source's own counters, carried by requests and OPEN frames.
 // How often the pathway was blocked.
 pub struct Pbc(pub u8);
 
@@ -44,6 +45,7 @@ pub enum OpenRead {
     Refused(Refusal),
 }
 
+// 01 FORM.5: Shifts and masks split and join the OPEN frame's first bytes, with their round trip proved.
 // Bit 7.
 fn top(b: u8) -> u8
     ensures { λ r. ⌜ r ≡ b / 128 ⌝ }

@@ -514,6 +514,7 @@ pub fn setup(list: &mut [Request], count: u8, loss: u16) -> Stepped
     left(list, d)
 }
 
+// 01 FORM.8: A lent slice of request records; a few thin calls over a covered core that works on one record and numbers.
 // A request for a connection.
 pub fn submit(list: &mut [Request], p: Port, x: Wish) -> Stepped
     ensures { λ s. ⌜ Called (now (list .entry)) (submitCall (now (list .entry)) p x) (calls.short p) s (now (list .exit)) ⌝ }

@@ -248,6 +248,7 @@ pub fn free_sets(phys: [Phy; 8], h: Head) -> Sets
     s
 }
 
+// 01 FORM.2: Free phys as a bit set; trailing zeros pick the lowest, a count of ones tells how many.
 // The first rule that has a phy, and the lowest phy that it has.
 pub fn way_for(phys: [Phy; 8], r: Request) -> Way
     ensures { λ a. ⌜ a ≡ wayOf phys r ⌝ }

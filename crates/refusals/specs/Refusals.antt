@@ -15,6 +15,7 @@ use Rattle.refusals.specs.declared.Written.the-variants.{Done, Refused}
 -- 01 REFUSAL.8: every byte has been sent in this attempt
 -- 01 REFUSAL.9: a request with this destination, protocol and tag is present
 -- 01 REFUSAL.10: 32 requests are present, or 64 frames are unanswered
+-- 01 FORM.9: Where an answer is an enum, a definition gives this paper's number and values for each of its cases, and the promises use that definition.
 abbrev pub numberOf : Refusal → ℕ
 numberOf Length = 1
 numberOf Unlisted = 2

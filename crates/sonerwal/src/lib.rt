@@ -12,6 +12,7 @@ use ssp_frame::data;
 use ssp_frame::data::DataHead;
 use ssp_frame::data::DataRead;
 
+// 01 FORM.3: extern "C" functions over byte slices and numbers for OPEN and DATA frames.
 // Fills the nine numbers with the fields of the OPEN frame in frame.
 #[no_mangle]
 pub extern "C" fn sas_open_read(

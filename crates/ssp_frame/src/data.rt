@@ -95,6 +95,7 @@ fn put_payload(body: &[u8], fill: usize, out: &mut [u8])
     bytes::copy(&block[..n], out);
 }
 
+// 01 FORM.1: The part of the output slice from 24 on is lent to the payload writer.
 // The frame, at the front of out; the bytes past it stay, and on a refusal all of them.
 pub fn write_data(h: DataHead, body: &[u8], out: &mut [u8]) -> Written
     ensures { λ r. ⌜ Wrote (writeCauses h (now (body .entry)) (now (out .entry))) (dataBytes h (now (body .entry)) ++ drop (frameEnd (length (now (body .entry)))) (now (out .entry))) (now (out .entry)) r (now (out .exit)) ⌝ }

@@ -469,6 +469,7 @@ impl Transfer {
         Checked::Passed
     }
 
+    // 01 FORM.6: Transfer methods with mut self for frame, ACK, NAK, timeout and cancel.
     // The next frame goes.
     pub fn frame(mut self) -> Stepped
         ensures { λ a. ⌜ a ≡ frameStep bound64 self ⌝ }

@@ -678,6 +678,7 @@ fn why(read: OpenRead) -> Refusal
     }
 }
 
+// 01 FORM.4: The XL step takes the reader's enum apart by let .. else and returns the refusal number.
 // An OPEN received, as bytes.
 pub fn receive(state: State, bytes: &[u8]) -> Stepped
     ensures { λ r. ⌜ r ≡ receiveOf (now (bytes .entry)) state ⌝ }
