@@ -1,6 +1,7 @@
 /*
- * The port's ten calls, from C: document 01, 'Port'. The caller lends the list of 32 records to each call, gives the port by
- * value and goes on with the port of the reply.
+ * The port's ten calls as C reaches them, for tests and the bench: the crate bench_ports, document 01, 'Port'. The caller lends the list
+ * of 32 records to each call, gives the port by value and goes on with the port of the reply. Every struct has C's own layout; what
+ * lies between two members is not looked at and not promised.
  */
 #ifndef SONERWAL_TESTS_PORTS_H
 #define SONERWAL_TESTS_PORTS_H
