@@ -29,7 +29,7 @@ static const char *const reasons[] = {
 
 static const char *const refusals[] = {
 	[1] = "a buffer has the wrong length",
-	[2] = "a field isn't one listed",
+	[2] = "a field, event or line isn't one listed here",
 	[3] = "a setup number is out of range, or a lent state breaks its rules",
 	[4] = "the phy isn't one of the port's",
 	[5] = "the given time is before the port's last time",
@@ -97,10 +97,10 @@ static void print_answer(const struct reply *reply)
 static void tell(uint64_t now, const struct reply *reply, const char *format, ...)
 {
 	char call[80];
-	va_list words;
-	va_start(words, format);
-	vsnprintf(call, sizeof call, format, words);
-	va_end(words);
+	va_list values;
+	va_start(values, format);
+	vsnprintf(call, sizeof call, format, values);
+	va_end(values);
 	if (!quiet) {
 		printf("%11" PRIu64 "  %-46s", now, call);
 		print_answer(reply);

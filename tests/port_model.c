@@ -381,7 +381,7 @@ static struct phy show_phy(const struct line *line)
 	} else if (line->opening) {
 		phy.stage = 2;
 	} else if (line->joined) {
-		phy.stage = (line->closing ? 5 : 3) + line->out;
+		phy.stage = (uint8_t)((line->closing ? 5 : 3) + line->out);
 	}
 	return phy;
 }
@@ -465,22 +465,24 @@ static unsigned free_slot(const struct model *m)
 	return slot;
 }
 
+static unsigned cause(unsigned number, bool holds)
+{
+	return (unsigned)holds << number;
+}
+
 /* 01 REFUSAL.1 01 REFUSAL.3 01 REFUSAL.4 01 REFUSAL.5 01 REFUSAL.9 01 REFUSAL.10 01 PORT.3 */
 static unsigned causes(const struct model *m, const struct order *o)
 {
 	bool lent = o->call != SETUP;
-	unsigned found = (o->length != SLOTS) << 1 | !order_listed(o) << 2;
-	found |= (lent ? m->broken != 0 : !in_range(o->count, o->loss)) << 3;
-	found |= (names_phy(o->call) && o->phy >= m->count) << 4;
-	found |= (lent && o->now < m->last) << 5;
-	if (found & ~(1u << 5)) {
-		return found; /* the rest asks a state that keeps the rules */
+	unsigned found = cause(1, o->length != SLOTS) | cause(2, !order_listed(o));
+	found |= cause(3, lent ? m->broken != 0 : !in_range(o->count, o->loss));
+	found |= cause(4, names_phy(o->call) && o->phy >= m->count);
+	if (found == 0) { /* the others ask a state that keeps the rules, and one of its phys */
+		found |= cause(6, !fits(m, o));
+		found |= cause(9, o->call == SUBMIT && find(m, key_of(&o->head)));
+		found |= cause(10, o->call == SUBMIT && free_slot(m) == NO_SLOT);
 	}
-	found |= !fits(m, o) << 6;
-	if (o->call == SUBMIT) {
-		found |= (find(m, key_of(&o->head)) != NULL) << 9 | (free_slot(m) == NO_SLOT) << 10;
-	}
-	return found;
+	return found | cause(5, lent && o->now < m->last);
 }
 
 /* 01 REFUSAL.11 */

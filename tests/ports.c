@@ -13,7 +13,7 @@
 #include <stdio.h>
 #include <string.h>
 
-enum { LEAST_CALLS = 1200000, SHOWN = 10, STAGES = 7, REFUSALS = 11 };
+enum { LEAST_CALLS = 1000000, SHOWN = 10, STAGES = 7, REFUSALS = 11 };
 
 static const char *const call_names[CALLS] = {
 	[SETUP] = "setup",
@@ -674,7 +674,7 @@ static struct order any_order(const struct world *w, const struct mood *mood)
 	o.head = any_head(mood);
 	o.key = noise_below(8) ? present_key(w, mood) : any_key(mood);
 	if (noise_below(100) == 0) {
-		o.key.protocol = (uint8_t)noise_below(256);
+		o.key.protocol = (uint8_t)(noise_below(2) ? 3 : noise_below(256));
 	}
 	return o;
 }

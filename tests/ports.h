@@ -25,9 +25,10 @@ struct open_frame {
 struct phy {
 	/* 0 disabled, 1 unconnected, 2 opening, 3 connected, 4 connected with a frame out, 5 closing, 6 closing with a frame out */
 	uint8_t stage;
-	uint8_t slot;         /* of the request that it names, 32 if it names none */
-	uint8_t protocol;     /* with whom it is connected; 0 */
-	uint64_t destination; /* before it is and afterwards */
+	uint8_t slot; /* of the request that it names, 32 if it names none */
+	/* With whom it is connected; zeros if it isn't. */
+	uint8_t protocol;
+	uint64_t destination;
 };
 
 /* A time in microseconds that may not have come. */
@@ -37,15 +38,17 @@ struct stamp {
 };
 
 struct request {
-	uint8_t stage; /* 0 free, 1 waiting, 2 in progress */
-	uint8_t phy;   /* that a request in progress is on, else 0 */
-	uint8_t cancelled, closed; /* 1 once it was cancelled; once choose closed a phy for it */
+	uint8_t stage;     /* 0 free, 1 waiting, 2 in progress */
+	uint8_t phy;       /* that a request in progress is on, else 0 */
+	uint8_t cancelled; /* 1 once it was, else 0 */
+	uint8_t closed;    /* 1 once choose closed a phy for it, else 0 */
 	uint8_t pbc;
-	uint16_t awt; /* of its last Open since its last reset */
+	uint16_t awt; /* of its last Open since its last reset, 0 if there was none */
 	struct head head;
 	uint64_t submitted;
-	/* Its last retry; its first open after its last reset; the start of its destination's loss timer, in each SSP request to it. */
-	struct stamp retry, first, loss;
+	struct stamp retry; /* its last one */
+	struct stamp first; /* its first open after its last reset */
+	struct stamp loss;  /* the start of its destination's loss timer, in every SSP request to it */
 };
 
 struct port {
@@ -61,10 +64,10 @@ struct reply {
 	 * 11 NexusLoss, 12 ConnectionLost, 13 Status, 14 Refused
 	 */
 	uint8_t word;
-	uint8_t detail;           /* Ended: the reason's number; Status: the byte; Refused: the refusal's number; else 0 */
-	uint8_t slot, phy;        /* 32 and 8 if none is named */
-	struct open_frame frame;  /* the head of the request that is named; pbc and awt are Open's alone */
-	struct port port;
+	uint8_t detail;          /* Ended: the reason's number; Status: the byte; Refused: the refusal's number; else 0 */
+	uint8_t slot, phy;       /* 32 and 8 if none is named */
+	struct open_frame frame; /* the head of the request that is named; pbc and awt are Open's alone; else zeros */
+	struct port port;        /* as it is after the call */
 };
 
 struct wish {
