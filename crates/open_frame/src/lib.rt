@@ -11,6 +11,7 @@ use refusals::Refusal;
 use refusals::Written;
 
 // The fields that a request for a connection has too.
+#[repr(C)]
 pub struct Head {
     // 1 for an initiator, else 0.
     pub initiator: u8,
@@ -29,11 +30,14 @@ pub struct Head {
 // 01 OPEN.8: An arbitration wait and a blocked count are kept apart.
 // 01 FORM.7: Two tuple structs for AWT and PBC, the source's own counters, carried by requests and OPEN frames.
 // How often the pathway was blocked.
+#[repr(C)]
 pub struct Pbc(pub u8);
 
 // How long the request has waited, as a wait value.
+#[repr(C)]
 pub struct Awt(pub u16);
 
+#[repr(C)]
 pub struct OpenFrame {
     pub head: Head,
     pub pbc: Pbc,

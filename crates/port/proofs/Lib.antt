@@ -1,7 +1,7 @@
 -- The walks of the lent list, each proved once, and what the scans find.
-mod Arg
-mod Rec
-mod Rows
+pub mod Arg
+pub mod Rec
+pub mod Rows
 mod Shared
 mod Turns
 mod FoldFrom

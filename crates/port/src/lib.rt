@@ -33,6 +33,7 @@ pub struct Stepped {
 }
 
 // What a choose gives.
+#[repr(C)]
 pub struct Moment {
     pub now: u64,
 }

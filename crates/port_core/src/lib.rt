@@ -90,11 +90,13 @@ pub struct Room {
 }
 
 // What a submit gives.
+#[repr(C)]
 pub struct Wish {
     pub head: Head,
     pub now: u64,
 }
 
+#[repr(C)]
 pub struct Key {
     pub destination: u64,
     pub protocol: u8,
@@ -102,18 +104,21 @@ pub struct Key {
 }
 
 // What a cancel gives.
+#[repr(C)]
 pub struct Withdrawn {
     pub key: Key,
     pub now: u64,
 }
 
 // What a call about a phy gives.
+#[repr(C)]
 pub struct Confirmed {
     pub phy: u8,
     pub now: u64,
 }
 
 // What an Open Failed gives.
+#[repr(C)]
 pub struct Failure {
     pub phy: u8,
     // The reason's number.
@@ -122,6 +127,7 @@ pub struct Failure {
 }
 
 // What a frame status gives.
+#[repr(C)]
 pub struct Report {
     pub phy: u8,
     pub status: u8,

@@ -14,6 +14,7 @@ use open_frame::Head;
 use open_frame::Pbc;
 
 // A phy of the port. Lent states can hold any numbers; the rules of a state say which are taken.
+#[repr(C)]
 pub struct Phy {
     // 0 disabled, 1 unconnected, 2 opening, 3 connected and idle, 4 connected with a frame out, 5 closing and idle, 6 closing
     // with a frame out.
@@ -26,6 +27,7 @@ pub struct Phy {
 }
 
 // A time that may not have come.
+#[repr(C)]
 pub struct Stamp {
     // 1 once it came, else 0.
     pub set: u8,
@@ -34,6 +36,7 @@ pub struct Stamp {
 }
 
 // A record of the list that the caller lends.
+#[repr(C)]
 pub struct Request {
     // 0 free, 1 waiting, 2 in progress.
     pub stage: u8,
@@ -56,6 +59,7 @@ pub struct Request {
     pub loss: Stamp,
 }
 
+#[repr(C)]
 pub struct Port {
     // How many phys it has.
     pub count: u8,

@@ -1,0 +1,3 @@
+-- What C sees of a call of the port, proved once for all ten.
+mod Rows
+mod Through

@@ -1,0 +1,2 @@
+-- What C sees of the port's calls.
+pub mod Face
