@@ -1,9 +1,9 @@
 -- Cancel frees a waiting request, and marks one in progress, whose phy goes on naming it: a phy with its frame out becomes a closing one.
 -- Assumes nothing.
 use Prim.Native.Nat.{ℕ, _≤_, _<_}
-use mathlib.Core.Path.{_≡_, refl, sym, ap, subst, _∙_}
-use mathlib.Core.Bool.{Bool, true, false, cond}
-use mathlib.Core.Logic.{_⊎_, inl, inr}
+use mathlib.Core.Path.{_≡_, refl}
+use mathlib.Core.Bool.{true, false, cond}
+use mathlib.Core.Logic.{inl, inr}
 use mathlib.Core.List.{List}
 use native.Mathlib.Omega.{arith}
 use lib.ListN.{length, getD}
@@ -13,7 +13,7 @@ use Rattle.port_parts.specs.Parts.{blank, isSending, isOpening, isWaiting}
 use Rattle.port_parts.specs.declared.Phy.{Phy}
 use Rattle.port_parts.specs.declared.Port.{Port}
 use Rattle.port_parts.specs.declared.Request.{Request}
-use Rattle.port_rules.specs.Kept.{MustName, PhyKept, Free, Present, Kept}
+use Rattle.port_rules.specs.Kept.{PhyKept, Free, Present, Kept}
 use Rattle.port_core.specs.Answers.{later, withPhy, stagedPhy, unchanged, told}
 use Rattle.port_core.specs.Calls.{marked, phyAt, closedPhy, cancelled}
 use Rattle.port_core.specs.declared.Done.{Done}
@@ -21,19 +21,13 @@ use Rattle.port_core.specs.declared.Word.the-variants.{CancelAcknowledged, Stop
 use Rattle.port.specs.Calls.{leftOf}
 use Rattle.port_kept.proofs.Changes.{changed}
 use Rattle.port_kept.proofs.Enters.{free-enters, same-enters}
-use Rattle.port_kept.proofs.Holds.{stamps-later, busy-kept, present-at, number-low, names-none}
+use Rattle.port_kept.proofs.Holds.{old-retry, old-first, old-loss, present-as, busy-kept, present-at, number-low}
 use Rattle.port_kept.proofs.Lates.{waits-on}
 use Rattle.port_kept.proofs.Links.{stay}
 
 marked-present : (r : Request) (last now : ℕ) → last ≤ now → r .stage ≡ 2 → Present r last → Present (marked r 1 (r .closed)) now
 marked-present r last now on busy was =
-    record {
-      flags = record { stage = was .flags .stage; cancelled = omega arith; closed = was .flags .closed; retry = was .flags .retry; first = was .flags .first; loss = was .flags .loss };
-      fields = was .fields;
-      cancelled = λ e. busy;
-      stamps = let s = stamps-later r last now on was in record { submitted = s .submitted; retry = s .retry; first = s .first; loss = s .loss };
-      loss = was .loss;
-    }
+    present-as r last now on was (marked r 1 (r .closed)) refl refl (was .flags .stage) (omega arith) (λ e. busy) (was .flags .closed) (old-retry r last now on was) (old-first r last now on was) (old-loss r last now on was) (was .loss)
 
 module _ (p : Port) (l : List Request) (size : length l ≡ 32) (eight : length (p .phys) ≡ 8) (was : Kept p l) (i now : ℕ) (low : i < 32) (on : p .last ≤ now) (there : Free (getD l i blank) → ⊥) where
   abbrev r : Request

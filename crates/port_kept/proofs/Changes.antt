@@ -7,22 +7,23 @@ use mathlib.Core.Logic.{_⊎_, inl, inr, _↔_}
 use mathlib.Core.List.{List}
 use native.Mathlib.Omega.{arith}
 use lib.Dec.{eqb}
-use lib.ListN.{length, getD, set, List·getD-eq-default}
+use lib.ListN.{length, getD}
 use lib.Seq.{getD-set-same, getD-set-other}
-use borrow.Author.Tests.{eqb-true, eqb-false, eq-eqb, ne-eqb, ltb-true, ltb-false}
+use borrow.Author.Tests.{eqb-true, eqb-false, eq-eqb, ne-eqb}
 use Rattle.port_parts.specs.Parts.{noPhy, blank}
 use Rattle.port_parts.specs.declared.Phy.{Phy}
 use Rattle.port_parts.specs.declared.Port.{Port}
 use Rattle.port_parts.specs.declared.Request.{Request}
-use Rattle.port_rules.specs.Kept.{Free, MustName, PhyKept, Paired, Present, RequestKept, Apart, Kept}
+use Rattle.port_rules.specs.Kept.{Free, PhyKept, Paired, Present, RequestKept, Apart, Kept}
 use Rattle.port_core.specs.Answers.{withPhy}
 use Rattle.port_core.specs.Calls.{phyAt}
 use Rattle.port_core.specs.declared.Answer.{Answer}
 use Rattle.port_core.specs.declared.Done.{Done}
 use Rattle.port_core.specs.declared.Loss.{Loss}
-use Rattle.port.specs.Calls.{spread, leftStep, leftOf}
+use Rattle.port.specs.Calls.{spread, leftOf}
 use Rattle.port.proofs.Begins.{left-at}
-use Rattle.port_kept.proofs.Links.{On, Entry, Linked}
+use Rattle.port_kept.proofs.Holds.{Dated}
+use Rattle.port_kept.proofs.Links.{On, Linked}
 use Rattle.port_kept.proofs.Spreads.{apart-back, spread-stage, spread-phy, spread-present, spread-apart}
 
 -- two numbers are one, or they aren't
@@ -50,7 +51,7 @@ module _ (p : Port) (l : List Request) where
   pub record Change (k : ℕ) (g : Phy) (i : ℕ) (e : Request) (x : Loss) (now : ℕ) : Type 0 where
     pub number : k < 8
     pub time : p .last ≤ now
-    pub timer : x .change ≡ true → (x .timer .set ≤ 1) × (x .timer .at ≤ now)
+    pub timer : x .change ≡ true → Dated now (x .timer)
     pub phy : PhyKept (p .count) g k
     pub linked : Linked (phyAt p k) g k (at i) e i
     pub entered : i < 32 → Entered i e x now

@@ -12,12 +12,12 @@ use borrow.Author.Tests.{ltb-true}
 use Rattle.laws.proofs.Bools.{and-left, and-right}
 use Rattle.open_frame.specs.Open.{headListed}
 use Rattle.open_frame.specs.declared.Head.{Head}
-use Rattle.port_parts.specs.Parts.{blank}
+use Rattle.port_parts.specs.Parts.{none, stamped, blank}
 use Rattle.port_parts.specs.declared.Phy.{Phy}
 use Rattle.port_parts.specs.declared.Port.{Port}
 use Rattle.port_parts.specs.declared.Request.{Request}
 use Rattle.port_parts.specs.declared.Stamp.{Stamp}
-use Rattle.port_rules.specs.Kept.{Free, MustName, PhyKept, Flags, Stamped, Present, Kept}
+use Rattle.port_rules.specs.Kept.{Free, MustName, PhyKept, Present, Kept}
 use Rattle.port_core.specs.Calls.{phyAt, timed}
 use Rattle.port_kept.proofs.Links.{On}
 
@@ -28,29 +28,45 @@ low-protocol h e =
     let behind = and-right (ltb (h .initiator) 2) (ltb (h .protocol) 3 && (ltb (h .features) 16 && (leb 8 (h .rate) && ltb (h .rate) 11))) e in
     ltb-true (h .protocol) 3 (and-left (ltb (h .protocol) 3) (ltb (h .features) 16 && (leb 8 (h .rate) && ltb (h .rate) 11)) behind)
 
+-- a stamp that may stand in a record at the time `now`
+abbrev pub Dated : ℕ → Stamp → Type 0
+Dated now t = (t .set ≤ 1) × (t .at ≤ now)
+
+pub dated-none : (now : ℕ) → Dated now none
+dated-none now = (omega arith, omega arith)
+
+pub dated-now : (now : ℕ) → Dated now (stamped now)
+dated-now now = (omega arith, omega arith)
+
 module _ (r : Request) (last now : ℕ) (on : last ≤ now) (was : Present r last) where
-  -- no stamp is past a later time
-  pub stamps-later : Stamped r now
-  stamps-later =
-      let a = was .stamps .submitted in
-      let b = was .stamps .retry in
-      let c = was .stamps .first in
-      let d = was .stamps .loss in
-      record { submitted = omega arith; retry = omega arith; first = omega arith; loss = omega arith }
+  -- the stamps that are there, at a later time
+  pub old-retry : Dated now (r .retry)
+  old-retry = (was .flags .retry, omega (arith, was .stamps .retry))
+
+  pub old-first : Dated now (r .first)
+  old-first = (was .flags .first, omega (arith, was .stamps .first))
+
+  pub old-loss : Dated now (r .loss)
+  old-loss = (was .flags .loss, omega (arith, was .stamps .loss))
+
+  -- a record with the head and the submission time of r
+  pub present-as : (e : Request) → e .head ≡ r .head → e .submitted ≡ r .submitted → e .stage ≤ 2 → e .cancelled ≤ 1 → (e .cancelled ≡ 1 → e .stage ≡ 2) → e .closed ≤ 1 → Dated now (e .retry) → Dated now (e .first) → Dated now (e .loss)
+      → (e .head .protocol ≡ 1) ⊎ (e .loss .set ≡ 1 → ⊥) → Present e now
+  present-as e head submitted stage cancelled only closed retry first loss ssp =
+      record {
+        flags = record { stage = stage; cancelled = cancelled; closed = closed; retry = retry .0; first = first .0; loss = loss .0 };
+        fields = subst (λ (h : Head). headListed h ≡ true) (sym head) (was .fields);
+        cancelled = only;
+        stamps = record { submitted = omega (arith, was .stamps .submitted); retry = retry .1; first = first .1; loss = loss .1 };
+        loss = ssp;
+      }
 
   pub present-later : Present r now
-  present-later = record { flags = was .flags; fields = was .fields; cancelled = was .cancelled; stamps = stamps-later; loss = was .loss }
+  present-later = present-as r refl refl (was .flags .stage) (was .flags .cancelled) (was .cancelled) (was .flags .closed) old-retry old-first old-loss (was .loss)
 
   -- with another loss timer
-  pub present-timed : (t : Stamp) → t .set ≤ 1 → t .at ≤ now → (r .head .protocol ≡ 1) ⊎ (t .set ≡ 1 → ⊥) → Present (timed r t) now
-  present-timed t set at loss =
-      record {
-        flags = record { stage = was .flags .stage; cancelled = was .flags .cancelled; closed = was .flags .closed; retry = was .flags .retry; first = was .flags .first; loss = set };
-        fields = was .fields;
-        cancelled = was .cancelled;
-        stamps = record { submitted = stamps-later .submitted; retry = stamps-later .retry; first = stamps-later .first; loss = at };
-        loss = loss;
-      }
+  pub present-timed : (t : Stamp) → Dated now t → (r .head .protocol ≡ 1) ⊎ (t .set ≡ 1 → ⊥) → Present (timed r t) now
+  present-timed t dated loss = present-as (timed r t) refl refl (was .flags .stage) (was .flags .cancelled) (was .cancelled) (was .flags .closed) old-retry old-first dated loss
 
 -- ---- phys
 

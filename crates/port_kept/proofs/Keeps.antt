@@ -2,18 +2,16 @@
 -- change one phy, one record and a timer as the rules ask. Assumes nothing.
 use Prim.Native.Nat.{ℕ, _≤_, _<_}
 use mathlib.Core.Path.{_≡_, refl, sym, _∙_}
-use mathlib.Core.Bool.{Bool, true, false, not, _&&_, _||_}
+use mathlib.Core.Bool.{Bool, true, false, not}
 use mathlib.Core.List.{List, [], _∷_}
-use mathlib.Core.Logic.{_⊎_, inl, inr, _↔_}
 use native.Mathlib.Omega.{arith}
 use lib.Dec.{eqb, leb, ltb}
 use lib.ListN.{length, getD, length-set, length-replicate}
 use borrow.Author.Tests.{eqb-true, eqb-false, ltb-true, ltb-false, leb-false, not-true, not-false}
 use Rattle.laws.proofs.Bools.{never, nor, and-left, by-test}
 use Rattle.laws.proofs.Finds.{Found, none, at}
-use Rattle.refusals.specs.Causes.{Cause, _when_, refuse, Decides, cons}
+use Rattle.refusals.specs.Causes.{_when_, refuse, Decides, cons}
 use Rattle.refusals.specs.declared.Refusal.{Refusal}
-use Rattle.refusals.proofs.Causes.{NoneGiven}
 use Rattle.open_frame.specs.Open.{headListed}
 use Rattle.port_parts.specs.Parts.{off, blank, isFree, isWaiting, isOpening, isDisabled}
 use Rattle.port_parts.specs.Reasons.{reasonOf}
@@ -22,7 +20,7 @@ use Rattle.port_parts.specs.declared.Port.{Port}
 use Rattle.port_parts.specs.declared.Request.{Request}
 use Rattle.port_parts.proofs.Choices.{choose-right}
 use Rattle.port_rules.specs.Rules.{inRange, rules, hasFrameOut}
-use Rattle.port_rules.specs.Kept.{InRange, Free, Kept}
+use Rattle.port_rules.specs.Kept.{Free, Kept}
 use Rattle.port_rules.proofs.Facts.{range-says}
 use Rattle.port_core.specs.Answers.{refusedBy, told, later, withPhy, fresh, noPort, idlePhy, unchanged}
 use Rattle.port_core.specs.Calls.{phyAt, isCancelled, isJoined, bare, submitted, cancelled, chosen, connected, failed, framed, closedDone, disabledDone, submitCauses, cancelCauses, chooseCauses, phyCauses, failedCauses, setupOf, submitOf, cancelOf, chooseOf, openedOf, openFailedOf, frameStatusOf, closedOf, enableOf, disableOf}

@@ -1,10 +1,9 @@
 -- A call that changes no phy is a change of a phy to what it is, so the same law serves it. Assumes nothing.
 use Prim.Native.Nat.{ℕ, _≤_, _<_}
-use mathlib.Core.Path.{_≡_, refl, sym, ap, subst, _∙_}
-use mathlib.Core.Bool.{true}
+use mathlib.Core.Path.{_≡_, subst}
 use mathlib.Core.List.{List}
 use native.Mathlib.Omega.{arith}
-use lib.ListN.{length, getD, set}
+use lib.ListN.{length, getD}
 use lib.Seq.{set-getD}
 use Rattle.laws.proofs.Bools.{never}
 use Rattle.port_parts.specs.Parts.{noPhy, blank}
@@ -12,7 +11,7 @@ use Rattle.port_parts.specs.declared.Phy.{Phy}
 use Rattle.port_parts.specs.declared.Port.{Port}
 use Rattle.port_parts.specs.declared.Request.{Request}
 use Rattle.port_rules.specs.Kept.{Kept}
-use Rattle.port_core.specs.Answers.{later, withPhy, unchanged}
+use Rattle.port_core.specs.Answers.{later, unchanged}
 use Rattle.port_core.specs.Calls.{phyAt}
 use Rattle.port_core.specs.declared.Answer.{Answer}
 use Rattle.port.specs.Calls.{leftOf}

@@ -1,6 +1,5 @@
 -- A call leaves the state where it is refused; else its causes were all passed, and it leaves what its core does. So what holds of the
 -- state before, and of what the core leaves, holds of what the call leaves. Assumes nothing.
-use Prim.Native.Nat.{ℕ}
 use mathlib.Core.Path.{_≡_, refl, sym, ap, subst, _∙_}
 use mathlib.Core.Bool.{Bool, true, false, cond}
 use mathlib.Core.List.{List}
@@ -9,13 +8,13 @@ use lib.ListN.{length}
 use borrow.Author.Tests.{eqb-true}
 use Rattle.laws.proofs.Bools.{never, by-test}
 use Rattle.refusals.specs.Causes.{Cause, refuse}
-use Rattle.refusals.specs.declared.Refusal.{Refusal}
 use Rattle.refusals.proofs.Causes.{NoneGiven, Verdict, stopped, passes, verdict}
 use Rattle.port_parts.specs.declared.Port.{Port}
 use Rattle.port_parts.specs.declared.Request.{Request}
 use Rattle.port_core.specs.Answers.{refusedBy}
 use Rattle.port_core.specs.declared.Done.{Done}
-use Rattle.port.specs.Calls.{on32, leftOf, steppedOf}
+use Rattle.port.specs.Calls.{on32, leftOf, steppedOf, Called}
+use Rattle.port.specs.declared.Stepped.{Stepped}
 use Rattle.port.proofs.Begins.{left-length}
 use Rattle.port.specs.History.{State, Call, setup, submit, cancel, choose, opened, openFailed, frameStatus, closed, enable, disable, doneOf, shortOf, steppedBy, isRefused, leave}
 
@@ -59,3 +58,9 @@ pub leave-length : (c : Call) (s : State) → length (leave c s .list) ≡ lengt
 leave-length c s =
     by-test (λ (t : State). length (t .list) ≡ length (s .list)) (isRefused (steppedBy c s .answer .word)) (λ e. refl)
     (λ e. by-test (λ (m : List Request). length m ≡ length (s .list)) (eqb (length (s .list)) 32) (λ d. left-length (s .list) (doneOf c s)) (λ d. refl))
+
+-- what a call that is taken promises of its port and of the list is what it leaves
+pub leaves-so : (c : Call) (s : State) (r : Stepped) (after : List Request) → Called (s .list) (doneOf c s) (shortOf c s) r after → isRefused (r .answer .word) ≡ false → leave c s ≡ record { port = r .port; list = after }
+leaves-so c s r after p accepted =
+    ap (λ (t : Bool). cond t s (record { port = steppedBy c s .port; list = on32 (s .list) (leftOf (s .list) (doneOf c s)) (s .list) })) (ap (λ (q : Stepped). isRefused (q .answer .word)) (sym (p .0)) ∙ accepted)
+    ∙ (λ i. record { port = sym (p .0) i .port; list = sym (p .1) i })

@@ -10,6 +10,6 @@ mod Lates
 mod Cancels
 mod Chooses
 mod Submits
-mod Leaves
+pub mod Leaves
 mod Keeps
 pub mod Runs

@@ -1,9 +1,9 @@
 -- A phy's calls that leave it with no request: enable, disable, Closed and the frame status. The phy names none afterwards, and the
 -- request that it named, if any, is gone or waits. Assumes nothing.
 use Prim.Native.Nat.{ℕ, _≤_, _<_}
-use mathlib.Core.Path.{_≡_, refl, sym, ap, subst, _∙_}
-use mathlib.Core.Bool.{Bool, true, false, cond}
-use mathlib.Core.Logic.{_⊎_, inl, inr}
+use mathlib.Core.Path.{_≡_, refl, subst}
+use mathlib.Core.Bool.{true, false, cond}
+use mathlib.Core.Logic.{inl}
 use mathlib.Core.List.{List}
 use native.Mathlib.Omega.{arith}
 use lib.ListN.{length, getD}
@@ -13,31 +13,24 @@ use Rattle.port_parts.specs.Parts.{off, blank, isSending}
 use Rattle.port_parts.specs.declared.Phy.{Phy}
 use Rattle.port_parts.specs.declared.Port.{Port}
 use Rattle.port_parts.specs.declared.Request.{Request}
-use Rattle.port_rules.specs.Kept.{MustName, PhyKept, Free, Present, Kept}
+use Rattle.port_rules.specs.Kept.{PhyKept, Present, Kept}
 use Rattle.port_core.specs.Answers.{withPhy, idlePhy, stagedPhy, unchanged, told}
 use Rattle.port_core.specs.Calls.{placed, phyAt, isCancelled, framed, closedDone, disabledDone}
 use Rattle.port_core.specs.declared.Answer.{Answer}
 use Rattle.port_core.specs.declared.Confirmed.{Confirmed}
-use Rattle.port_core.specs.declared.Done.{Done}
 use Rattle.port_core.specs.declared.Loss.{Loss}
-use Rattle.port_core.specs.declared.Report.{Report}
 use Rattle.port_core.specs.declared.Word.the-variants.{Taken}
 use Rattle.port.specs.Calls.{leftOf, onPhy}
 use Rattle.port_kept.proofs.Changes.{stored, Entered, changed}
 use Rattle.port_kept.proofs.Enters.{free-enters, same-enters}
-use Rattle.port_kept.proofs.Holds.{stamps-later, rests-kept, no-need, in-port, phy-kept, on-it, its-present, names-none}
+use Rattle.port_kept.proofs.Holds.{Dated, old-retry, old-first, old-loss, present-as, rests-kept, no-need, in-port, phy-kept, on-it, its-present, names-none}
 use Rattle.port_kept.proofs.Links.{On, part}
 
 -- a request that isn't cancelled waits again
 pub waits-present : (r : Request) (last now : ℕ) → last ≤ now → isCancelled r ≡ false → Present r last → Present (placed r 1 0) now
 waits-present r last now on kept was =
-    record {
-      flags = record { stage = omega arith; cancelled = was .flags .cancelled; closed = was .flags .closed; retry = was .flags .retry; first = was .flags .first; loss = was .flags .loss };
-      fields = was .fields;
-      cancelled = λ e. absurd (eqb-false (r .cancelled) 1 kept e);
-      stamps = let s = stamps-later r last now on was in record { submitted = s .submitted; retry = s .retry; first = s .first; loss = s .loss };
-      loss = was .loss;
-    }
+    present-as r last now on was (placed r 1 0) refl refl (omega arith) (was .flags .cancelled) (λ e. absurd (eqb-false (r .cancelled) 1 kept e)) (was .flags .closed) (old-retry r last now on was) (old-first r last now on was) (old-loss r last now on was)
+    (was .loss)
 
 module _ (p : Port) (l : List Request) (size : length l ≡ 32) (eight : length (p .phys) ≡ 8) (was : Kept p l) (k now : ℕ) (low : k < p .count) (on : p .last ≤ now) where
   abbrev f : Phy
@@ -47,7 +40,7 @@ module _ (p : Port) (l : List Request) (size : length l ≡ 32) (eight : length 
   r = onPhy l p k
 
   -- the phy becomes g, which names none, and its request becomes e
-  pub parted : (g : Phy) → PhyKept (p .count) g k → (g .slot < 32 → ⊥) → (a : Answer) → f .slot ≡ a .slot → (e : Request) → (e .stage ≡ 2 → ⊥) → (x : Loss) → (x .change ≡ true → (x .timer .set ≤ 1) × (x .timer .at ≤ now))
+  pub parted : (g : Phy) → PhyKept (p .count) g k → (g .slot < 32 → ⊥) → (a : Answer) → f .slot ≡ a .slot → (e : Request) → (e .stage ≡ 2 → ⊥) → (x : Loss) → (x .change ≡ true → Dated now (x .timer))
       → (a .slot < 32 → Entered p l (a .slot) e x now) → (q : Port) → Kept (withPhy p k g now) (leftOf l (stored q a e x))
   parted g kept still a same e rests x timer entered q =
       changed p l size eight was k g a e x now (record {

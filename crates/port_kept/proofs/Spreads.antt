@@ -1,24 +1,23 @@
 -- A destination's loss timer reaches all of its SSP requests or none, and changes nothing else of a record; so requests that were apart
 -- stay apart. Assumes nothing.
-use Prim.Native.Nat.{ℕ, _≤_, _<_}
-use mathlib.Core.Path.{_≡_, refl, sym, ap, subst, _∙_}
-use mathlib.Core.Bool.{Bool, true, false, not, cond, _&&_}
-use mathlib.Core.Logic.{_⊎_, inl, inr, _↔_}
-use native.Mathlib.Omega.{arith}
+use Prim.Native.Nat.{ℕ, _≤_}
+use mathlib.Core.Path.{_≡_, refl, sym, subst, _∙_}
+use mathlib.Core.Bool.{Bool, true, false, not, _&&_}
+use mathlib.Core.Logic.{inl}
 use lib.Dec.{eqb}
-use borrow.Author.Tests.{eqb-true, eqb-false, eq-eqb}
-use Rattle.laws.proofs.Bools.{never, and-left, and-right, by-test}
+use borrow.Author.Tests.{eqb-true, eq-eqb}
+use Rattle.laws.proofs.Bools.{never, by-test}
 use Rattle.laws.proofs.Tests.{Says, equal, both, itself, unless}
 use Rattle.open_frame.specs.declared.Head.{Head}
 use Rattle.port_parts.specs.Parts.{isFree, isSsp}
 use Rattle.port_parts.specs.declared.Request.{Request}
 use Rattle.port_parts.specs.declared.Stamp.{Stamp}
-use Rattle.port_rules.specs.Kept.{Free, Flags, Stamped, Present, SameKey, SameNexus, SameTimer, Apart}
+use Rattle.port_rules.specs.Kept.{Free, Present, SameKey, SameNexus, SameTimer, Apart}
 use Rattle.port_core.specs.Answers.{lossBy}
 use Rattle.port_core.specs.Calls.{timed}
 use Rattle.port_core.specs.declared.Loss.{Loss}
 use Rattle.port.specs.Calls.{spread}
-use Rattle.port_kept.proofs.Holds.{present-later, present-timed}
+use Rattle.port_kept.proofs.Holds.{Dated, present-later, present-timed}
 
 -- ---- requests are apart both ways round
 
@@ -61,10 +60,10 @@ module _ (x : Loss) where
   spread-phy r = by-spread (λ (s : Request). s .phy ≡ r .phy) r (λ h. refl) (λ h. refl)
 
   -- a request stays one, at a later time
-  pub spread-present : (r : Request) (last now : ℕ) → last ≤ now → (x .change ≡ true → (x .timer .set ≤ 1) × (x .timer .at ≤ now)) → Present r last → Present (spread x r) now
+  pub spread-present : (r : Request) (last now : ℕ) → last ≤ now → (x .change ≡ true → Dated now (x .timer)) → Present r last → Present (spread x r) now
   spread-present r last now on timer was =
       by-spread (λ (s : Request). Present s now) r
-      (λ h. let runs = timer (h .0) in present-timed r last now on was (x .timer) (runs .0) (runs .1) (inl (h .1 .1 .0)))
+      (λ h. present-timed r last now on was (x .timer) (timer (h .0)) (inl (h .1 .1 .0)))
       (λ h. present-later r last now on was)
 
   -- two requests stay apart: of one destination both get the timer or none does

@@ -1,13 +1,12 @@
 -- Submit fills a free slot with a request that no other shares its key with, and gives it the loss timer of its destination: that of
 -- some request to it, which the rules say is every one's. Assumes nothing.
 use Prim.Native.Nat.{ℕ, zero, suc, _≤_, _<_}
-use mathlib.Core.Path.{_≡_, refl, sym, ap, subst, _∙_}
+use mathlib.Core.Path.{_≡_, refl, sym, subst, _∙_}
 use mathlib.Core.Bool.{Bool, true, false, not, cond, _&&_}
 use mathlib.Core.Logic.{_⊎_, inl, inr}
 use mathlib.Core.List.{List}
 use native.Mathlib.Nat.{not-suc-le-zero}
 use native.Mathlib.Omega.{arith}
-use lib.Dec.{eqb}
 use lib.ListN.{length, getD}
 use Rattle.laws.specs.Folds.{foldTo}
 use Rattle.laws.proofs.Bools.{never}
@@ -16,22 +15,20 @@ use Rattle.laws.proofs.Tests.{Says, equal, both, unless}
 use Rattle.open_frame.specs.Open.{headListed}
 use Rattle.open_frame.specs.declared.Head.{Head}
 use Rattle.port_parts.specs.Parts.{none, blank, isFree}
-use Rattle.port_parts.specs.Parts as parts
 use Rattle.port_parts.specs.declared.Port.{Port}
 use Rattle.port_parts.specs.declared.Request.{Request}
 use Rattle.port_parts.specs.declared.Stamp.{Stamp}
-use Rattle.port_rules.specs.Kept.{Free, Present, SameKey, SameNexus, SameTimer, Apart, Kept}
+use Rattle.port_rules.specs.Kept.{Free, Present, SameNexus, SameTimer, Apart, Kept}
 use Rattle.port_rules.specs.Rules.{sameNexus}
 use Rattle.port_core.specs.Answers.{later, unchanged, told}
 use Rattle.port_core.specs.Calls.{submitted}
 use Rattle.port_core.specs.Finds.{noRoom, roomStep, roomOf}
-use Rattle.port_core.specs.declared.Done.{Done}
 use Rattle.port_core.specs.declared.Room.{Room}
 use Rattle.port_core.specs.declared.Wish.{Wish}
 use Rattle.port_core.specs.declared.Word.the-variants.{Submitted}
 use Rattle.port.specs.Calls.{leftOf}
 use Rattle.port.specs.Grounds as grounds
-use Rattle.port_kept.proofs.Changes.{Entered, same-or}
+use Rattle.port_kept.proofs.Changes.{same-or}
 use Rattle.port_kept.proofs.Enters.{beside}
 use Rattle.port_kept.proofs.Holds.{present-at}
 use Rattle.port_kept.proofs.Lates.{waits-on}
