@@ -1,9 +1,9 @@
 -- What is shown of the port so far: its choice is the right one, its test of a lent state says document 01's rules, a call is refused exactly by
--- the first ground that holds and then leaves every record, and a running loss timer runs on. Each call's promise is the definition
--- that these speak of. Assumes nothing.
+-- the first ground that holds and then leaves every record, each call keeps the rules, so that no state that calls leave is refused, and a
+-- running loss timer runs on. Each call's promise is the definition that these speak of. Assumes nothing.
 use Prim.Native.Nat.{ℕ, _≤_, _<_}
 use mathlib.Core.Bool.{Bool, true, false}
-use mathlib.Core.List.{List}
+use mathlib.Core.List.{List, _∷_}
 use mathlib.Core.Logic.{_↔_}
 use mathlib.Core.Path.{_≡_}
 use lib.ListN.{length}
@@ -29,12 +29,16 @@ use Rattle.port_rules.proofs.Facts.{rules-say}
 use Rattle.port_core.specs.Answers.{fresh, refusedBy}
 use Rattle.port_core.specs.Calls.{bare}
 use Rattle.port_core.specs.declared.Word.the-variants.{Taken, Refused}
-use Rattle.port.specs.Calls.{leftOf}
+use Rattle.port.specs.Calls.{leftOf, Called}
 use Rattle.port.specs.Grounds.{groundsOf}
-use Rattle.port.specs.History.{State, Call, steppedBy}
+use Rattle.port.specs.History.{State, Call, setup, doneOf, shortOf, steppedBy, isRefused, leave, run}
+use Rattle.port.specs.declared.Stepped.{Stepped}
 use Rattle.port.proofs.Promised.{refused-leaves}
 use Rattle.port.proofs.Refusals.{refused-exactly}
 use Rattle.port.proofs.Begins.{setup-kept}
+use Rattle.port_kept.specs.Ranged.{Ranged}
+use Rattle.port_kept.proofs.Leaves.{leaves-so}
+use Rattle.port_kept.proofs.Runs.{kept-sound, kept-since, run-length, never-three-since}
 
 -- 01 PORT.12 01 PORT.13 01 PORT.14 01 PORT.15
 pub record Ports : Type 1 where
@@ -46,6 +50,16 @@ pub record Ports : Type 1 where
   pub kept : (p : Port) (l : List Request) → Says (rules p l) (Kept p l)
   -- 01 PORT.2
   pub begins : (count loss : ℕ) (l : List Request) → length l ≡ 32 → InRange count loss → Kept (fresh count loss) (leftOf l (bare (fresh count loss) Taken true))
+  -- 01 PORT.4 01 PORT.5 01 PORT.6 01 PORT.7 01 PORT.8 01 PORT.9 01 PORT.10
+  -- each call leaves a state that keeps the rules; that a port has eight phys is its type's
+  pub keeps : (c : Call) (s : State) → length (s .port .phys) ≡ 8 → Kept (s .port) (s .list) → (length (leave c s .port .phys) ≡ 8) × Kept (leave c s .port) (leave c s .list)
+  -- over any calls after an accepted setup, refused ones among them, whatever list was lent
+  pub keeps-all : (count loss : ℕ) (s : State) → isRefused (steppedBy (setup count loss) s .answer .word) ≡ false → (cs : List Call) → Kept (run (setup count loss ∷ cs) s .port) (run (setup count loss ∷ cs) s .list)
+  pub as-long : (cs : List Call) (s : State) → length (run cs s .list) ≡ length (s .list)
+  -- 01 REFUSAL.3
+  pub never-three : (count loss : ℕ) (s : State) → isRefused (steppedBy (setup count loss) s .answer .word) ≡ false → (cs : List Call) (c : Call) → Ranged c → steppedBy c (run (setup count loss ∷ cs) s) .answer .word ≡ Refused Refusal.Rules → ⊥
+  -- what a call that is taken promises of the port and of the list is what these say that it leaves
+  pub promised : (c : Call) (s : State) (r : Stepped) (after : List Request) → Called (s .list) (doneOf c s) (shortOf c s) r after → isRefused (r .answer .word) ≡ false → leave c s ≡ record { port = r .port; list = after }
   -- 01 REFUSAL.4 01 REFUSAL.5 01 REFUSAL.9 01 REFUSAL.10 01 REFUSAL.14
   pub refuses : (c : Call) (s : State) (k : Refusal) → (steppedBy c s .answer .word ≡ Refused k) ↔ First (groundsOf c s) k
   pub leaves : (l : List Request) (p : Port) (k : Refusal) → leftOf l (refusedBy p k) ≡ l
@@ -57,6 +71,11 @@ ports = record {
   timer = runs-on;
   kept = rules-say;
   begins = setup-kept;
+  keeps = kept-sound;
+  keeps-all = kept-since;
+  as-long = run-length;
+  never-three = never-three-since;
+  promised = leaves-so;
   refuses = refused-exactly;
   leaves = refused-leaves;
 }

@@ -1,0 +1,92 @@
+-- Cancel frees a waiting request, and marks one in progress, whose phy goes on naming it: a phy with its frame out becomes a closing one.
+-- Assumes nothing.
+use Prim.Native.Nat.{ℕ, _≤_, _<_}
+use mathlib.Core.Path.{_≡_, refl}
+use mathlib.Core.Bool.{true, false, cond}
+use mathlib.Core.Logic.{inl, inr}
+use mathlib.Core.List.{List}
+use native.Mathlib.Omega.{arith}
+use lib.ListN.{length, getD}
+use borrow.Author.Tests.{eqb-true, eqb-false}
+use Rattle.laws.proofs.Bools.{never, by-test}
+use Rattle.port_parts.specs.Parts.{blank, isSending, isOpening, isWaiting}
+use Rattle.port_parts.specs.declared.Phy.{Phy}
+use Rattle.port_parts.specs.declared.Port.{Port}
+use Rattle.port_parts.specs.declared.Request.{Request}
+use Rattle.port_rules.specs.Kept.{PhyKept, Free, Present, Kept}
+use Rattle.port_core.specs.Answers.{later, withPhy, stagedPhy, unchanged, told}
+use Rattle.port_core.specs.Calls.{marked, phyAt, closedPhy, cancelled}
+use Rattle.port_core.specs.declared.Done.{Done}
+use Rattle.port_core.specs.declared.Word.the-variants.{CancelAcknowledged, StopArb, Close}
+use Rattle.port.specs.Calls.{leftOf}
+use Rattle.port_kept.proofs.Changes.{changed}
+use Rattle.port_kept.proofs.Enters.{free-enters, same-enters}
+use Rattle.port_kept.proofs.Holds.{old-retry, old-first, old-loss, present-as, busy-kept, present-at, number-low}
+use Rattle.port_kept.proofs.Lates.{waits-on}
+use Rattle.port_kept.proofs.Links.{stay}
+
+marked-present : (r : Request) (last now : ℕ) → last ≤ now → r .stage ≡ 2 → Present r last → Present (marked r 1 (r .closed)) now
+marked-present r last now on busy was =
+    present-as r last now on was (marked r 1 (r .closed)) refl refl (was .flags .stage) (omega arith) (λ e. busy) (was .flags .closed) (old-retry r last now on was) (old-first r last now on was) (old-loss r last now on was) (was .loss)
+
+module _ (p : Port) (l : List Request) (size : length l ≡ 32) (eight : length (p .phys) ≡ 8) (was : Kept p l) (i now : ℕ) (low : i < 32) (on : p .last ≤ now) (there : Free (getD l i blank) → ⊥) where
+  abbrev r : Request
+  r = getD l i blank
+
+  abbrev f : Phy
+  f = phyAt p (r .phy)
+
+  held : Present r (p .last)
+  held = present-at p l was i low there
+
+  freed : isWaiting r ≡ true → Kept (later p now) (leftOf l (told (later p now) CancelAcknowledged i 8 r blank unchanged))
+  freed w =
+      let d = told (later p now) CancelAcknowledged i 8 r blank unchanged in
+      let waits = eqb-true (r .stage) 1 w in
+      waits-on p l size eight was (d .answer) blank now on (λ h e. omega arith) (λ e. omega arith) (λ h. free-enters p l i unchanged now) (d .port)
+
+  module _ (off : isWaiting r ≡ false) where
+    -- a request that doesn't wait is in progress, and its phy names it
+    busy : r .stage ≡ 2
+    busy = by there (held .flags .stage) (eqb-false (r .stage) 1 off)
+      where
+        by : {n : ℕ} → (n ≡ 0 → ⊥) → n ≤ 2 → (n ≡ 1 → ⊥) → n ≡ 2
+        by a b c = omega arith
+
+    in-port : r .phy < 8
+    in-port = was .requests i low .paired .phy busy
+
+    named : f .slot ≡ i
+    named = was .requests i low .paired .each (r .phy) in-port .1 (busy, refl)
+
+    closed-kept : PhyKept (p .count) (closedPhy f) (r .phy)
+    closed-kept = by-test (λ (n : ℕ). PhyKept (p .count) (stagedPhy n (f .slot) f) (r .phy)) (isSending f) sending same
+      where
+        old : PhyKept (p .count) f (r .phy)
+        old = was .phys (r .phy) in-port
+
+        sending : isSending f ≡ true → PhyKept (p .count) (stagedPhy 6 (f .slot) f) (r .phy)
+        sending s =
+            let out = eqb-true (f .stage) 4 s in
+            busy-kept (p .count) (stagedPhy 6 (f .slot) f) (r .phy) (number-low p l was (r .phy) in-port (λ e. omega arith)) (omega arith) (old .protocol) (omega (arith, named)) (inl (inr (inr refl)))
+
+        same : isSending f ≡ false → PhyKept (p .count) (stagedPhy (f .stage) (f .slot) f) (r .phy)
+        same s = record { stage = old .stage; protocol = old .protocol; slot = old .slot; must = old .must; may = old .may; past = old .past }
+
+    marks : let d = told (withPhy p (r .phy) (closedPhy f) now) (cond (isOpening f) StopArb Close) i (r .phy) r (marked r 1 (r .closed)) unchanged in Kept (d .port) (leftOf l d)
+    marks =
+        changed p l size eight was (r .phy) (closedPhy f) (d .answer) (marked r 1 (r .closed)) unchanged now (record {
+          number = in-port;
+          time = on;
+          timer = λ c. absurd (never c);
+          phy = closed-kept;
+          linked = stay f (closedPhy f) (r .phy) r (marked r 1 (r .closed)) i refl refl refl (was .requests i low .paired .phy) (was .requests i low .paired .each (r .phy) in-port);
+          entered = λ h. same-enters p l was i low there (marked r 1 (r .closed)) now refl refl (marked-present r (p .last) now on busy held);
+        }) (d .port)
+      where
+        d : Done
+        d = told (withPhy p (r .phy) (closedPhy f) now) (cond (isOpening f) StopArb Close) i (r .phy) r (marked r 1 (r .closed)) unchanged
+
+  pub cancel-keeps : Kept (cancelled p r i now .port) (leftOf l (cancelled p r i now))
+  unfolding cancelled
+  cancel-keeps = by-test (λ (d : Done). Kept (d .port) (leftOf l d)) (isWaiting r) freed marks
