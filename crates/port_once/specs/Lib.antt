@@ -1,0 +1,3 @@
+-- Document 01, 'Port': how requests come and leave, by the history and by the records.
+pub mod Standing
+pub mod Turns
