@@ -23,28 +23,32 @@ use Rattle.port_core.specs.declared.Key.{Key}
 use Rattle.port_core.specs.declared.Word.{Word}
 use Rattle.port_core.specs.declared.Word.the-variants.{Taken, Submitted, Nothing, Send, Open, Close, StopArb, Retried, Waiting, CancelAcknowledged, Ended, NexusLoss, ConnectionLost, Status, Refused}
 use Rattle.port.specs.Grounds.{HasKey, Absent}
-use Rattle.port.specs.History.{Call, Entry, isLast}
+use Rattle.port.specs.History.{Call, Entry, isLast, isRefused}
 use Rattle.port_once.specs.Standing.{isSetup, isSubmitted, isOf, accepts, ends, submits, lastWords, Standing, gone, there, wrong, sameHead, accepted, ended, after, standing, silent}
 use Rattle.port_once.specs.Turns.{keyed, Stays, OthersStay, Comes, Leaves, Rests, Turns, Holds}
 
 -- ---- words and keys
 
-pub last-is-not-first : (w : Word) → isLast w ≡ true → isSubmitted w ≡ false
-last-is-not-first Taken e = refl
-last-is-not-first Submitted e = absurd (never e)
-last-is-not-first Nothing e = refl
-last-is-not-first Send e = refl
-last-is-not-first Open e = refl
-last-is-not-first Close e = refl
-last-is-not-first StopArb e = refl
-last-is-not-first Retried e = refl
-last-is-not-first Waiting e = refl
-last-is-not-first CancelAcknowledged e = refl
-last-is-not-first (Ended why) e = refl
-last-is-not-first NexusLoss e = refl
-last-is-not-first ConnectionLost e = refl
-last-is-not-first (Status byte) e = refl
-last-is-not-first (Refused k) e = refl
+-- no word is two of Submitted, a last word and a refusal
+pub words : (w : Word) → (isLast w ≡ true → (isSubmitted w ≡ false) × (isRefused w ≡ false)) × (isSubmitted w ≡ true → isRefused w ≡ false)
+words Taken = (λ e. (refl, refl), λ e. refl)
+words Submitted = (λ e. absurd (never e), λ e. refl)
+words Nothing = (λ e. (refl, refl), λ e. refl)
+words Send = (λ e. (refl, refl), λ e. refl)
+words Open = (λ e. (refl, refl), λ e. refl)
+words Close = (λ e. (refl, refl), λ e. refl)
+words StopArb = (λ e. (refl, refl), λ e. refl)
+words Retried = (λ e. (refl, refl), λ e. refl)
+words Waiting = (λ e. (refl, refl), λ e. refl)
+words CancelAcknowledged = (λ e. (refl, refl), λ e. refl)
+words (Ended why) = (λ e. (refl, refl), λ e. refl)
+words NexusLoss = (λ e. (refl, refl), λ e. refl)
+words ConnectionLost = (λ e. (refl, refl), λ e. refl)
+words (Status byte) = (λ e. (refl, refl), λ e. refl)
+words (Refused k) = (λ e. absurd (never e), λ e. absurd (never e))
+
+last-is-not-first : (w : Word) → isLast w ≡ true → isSubmitted w ≡ false
+last-is-not-first w e = words w .0 e .0
 
 first-is-not-last : (w : Word) → isSubmitted w ≡ true → isLast w ≡ false
 first-is-not-last w e = by (isLast w) refl
@@ -92,7 +96,7 @@ module _ (x : Key) (c : Call) (a : Answer) (v : Standing) where
 -- ---- the list holds what the history says
 
 -- no two requests share a key
-one-of-key : (p : Port) (l : List Request) (x : Key) → Kept p l → (i j : ℕ) → i < 32 → j < 32 → HasKey (getD l i blank) x → HasKey (getD l j blank) x → i ≡ j
+pub one-of-key : (p : Port) (l : List Request) (x : Key) → Kept p l → (i j : ℕ) → i < 32 → j < 32 → HasKey (getD l i blank) x → HasKey (getD l j blank) x → i ≡ j
 one-of-key p l x kept i j m n a b = elim (decLt i j) [
   | yes h ↦ absurd (kept .apart i j h n (a .0) (b .0) .keys (shared (getD l i blank) (getD l j blank) a b))
   | no h ↦ elim (decLt j i) [ yes g ↦ absurd (kept .apart j i g m (b .0) (a .0) .keys (shared (getD l j blank) (getD l i blank) b a)) | no g ↦ omega arith ]
@@ -196,7 +200,7 @@ holds-anew x c a v m s zeros = subst (λ (w : Standing). Holds x w m) (sym (afte
 
 -- ---- the counts
 
-abbrev one : Standing → ℕ
+abbrev pub one : Standing → ℕ
 one gone = 0
 one (there slot head) = 1
 one wrong = 0

@@ -3,3 +3,5 @@ pub mod Records
 pub mod Cores
 pub mod Steps
 pub mod Histories
+pub mod Runs
+pub mod Leaving
