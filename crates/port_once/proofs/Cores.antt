@@ -46,8 +46,8 @@ use Rattle.port.specs.History.{State, Call, setup, submit, cancel, choose, open
 use Rattle.port.specs.declared.Moment.{Moment}
 use Rattle.port.proofs.Refusals.{lowest-free, key-found, causesOf, decides}
 use Rattle.port_once.specs.Standing.{isSetup, isSubmitted}
-use Rattle.port_once.specs.Turns.{keyed, Stays, Turns, Lawful}
-use Rattle.port_once.proofs.Records.{stays-there, comes, leaves, rests}
+use Rattle.port_once.specs.Turns.{Turns, Lawful}
+use Rattle.port_once.proofs.Records.{comes, leaves, rests}
 
 not-free : (r : Request) (n : ℕ) → r .stage ≡ suc n → Free r → ⊥
 not-free r n a f = omega (arith, a, f)
@@ -105,7 +105,7 @@ module _ (s : State) (ok : Lawful s) where
   cancelled-turns r k now e h there =
       by-test Done-turns (isWaiting r)
       (λ _. leaves l (told (later p now) CancelAcknowledged k 8 r blank unchanged) (ok .list) refl refl h (λ f. there (ap (λ (q : Request). q .stage) e ∙ f)) (ap (λ (q : Request). q .head) (sym e)) refl)
-      (λ _. rests l stopping (ok .list) refl (other isSubmitted refl refl) (other isLast refl refl) (λ _. subst (λ (q : Request). Stays q (marked r 1 (r .closed))) e (stays-there there there refl)))
+      (λ _. rests l stopping (ok .list) refl (other isSubmitted refl refl) (other isLast refl refl) (λ _. (λ f. there (ap (λ (q : Request). q .stage) e ∙ f), (ap (λ (q : Request). q .head) (sym e), (there, refl)))))
     where
       stopping : Done
       stopping = told (withPhy p (r .phy) (closedPhy (phyAt p (r .phy))) now) (cond (isOpening (phyAt p (r .phy))) StopArb Close) k (r .phy) r (marked r 1 (r .closed)) unchanged
@@ -143,11 +143,11 @@ module _ (s : State) (ok : Lawful s) where
   chosen-turns now b (one w) =
       let there = not-free r 0 (waits r _ now (b .step) (w .fits)) in
       by-test Done-turns (eqb (b .step) 1)
-      (λ _. rests l (sent p r b now) (ok .list) refl refl refl (λ h. stays-there there (not-free (placed r 2 (b .phy)) 1 refl) refl))
+      (λ _. rests l (sent p r b now) (ok .list) refl refl refl (λ h. (there, (refl, (not-free (placed r 2 (b .phy)) 1 refl, refl)))))
       (λ _. by-test Done-turns (eqb (b .step) 2)
-      (λ _. rests l (opening p r b now) (ok .list) refl refl refl (λ h. stays-there there (not-free (placed r 2 (b .phy)) 1 refl) refl))
+      (λ _. rests l (opening p r b now) (ok .list) refl refl refl (λ h. (there, (refl, (not-free (placed r 2 (b .phy)) 1 refl, refl)))))
       (λ _. by-test Done-turns (eqb (b .step) 3)
-      (λ _. rests l (closing p r b now) (ok .list) refl refl refl (λ h. stays-there there there refl))
+      (λ _. rests l (closing p r b now) (ok .list) refl refl refl (λ h. (there, (refl, (there, refl)))))
       (λ _. rests l (idle p now) (ok .list) refl refl refl (λ h. absurd (omega arith)))))
     where
       r : Request
@@ -192,7 +192,7 @@ module _ (s : State) (ok : Lawful s) where
       by : NoneGiven (phyCauses p (rules p l) (x .phy) (x .now) (not (isOpening f))) → Done-turns (connected p f r x)
       by off =
           let there = busy (x .phy) (numbered (x .phy) (x .now) (not (isOpening f)) off) in
-          rests l (connected p f r x) (ok .list) refl (other isSubmitted refl refl) (other isLast refl refl) (λ h. stays-there (there h) (there h) refl)
+          rests l (connected p f r x) (ok .list) refl (other isSubmitted refl refl) (other isLast refl refl) (λ h. (there h, (refl, (there h, refl))))
 
   open-failed-turns : (x : Failure) → Turned (openFailedCall l p x)
   unfolding openFailedOf
@@ -223,7 +223,7 @@ module _ (s : State) (ok : Lawful s) where
       cases false false v h there = leaves l (left false false v) (ok .list) refl refl h there refl refl
       cases false true true h there = leaves l (left false true true) (ok .list) refl refl h there refl refl
       cases false true false h there =
-          rests l (left false true false) (ok .list) refl refl refl (λ _. stays-there there (not-free (again r why (x .now) (timerAfter r why (x .now))) 0 refl) refl)
+          rests l (left false true false) (ok .list) refl refl refl (λ _. (there, (refl, (not-free (again r why (x .now) (timerAfter r why (x .now))) 0 refl, refl))))
 
       by : f .slot < 32 → (f .slot < 32 → Free r → ⊥) → Done-turns (failed p f r why (x .phy) (x .now))
       by h there = cases (isCancelled r) (isRetried why) (isSsp (r .head) && isLost (timerAfter r why (x .now)) (p .loss) (x .now)) h (there h)
@@ -302,7 +302,7 @@ module _ (s : State) (ok : Lawful s) where
 
       named : (u : Bool) → f .slot < 32 → (Free r → ⊥) → Done-turns (left true u)
       named true h there = leaves l (left true true) (ok .list) refl refl h there refl refl
-      named false h there = rests l (left true false) (ok .list) refl refl refl (λ _. stays-there there (not-free (placed r 1 0) 0 refl) refl)
+      named false h there = rests l (left true false) (ok .list) refl refl refl (λ _. (there, (refl, (not-free (placed r 1 0) 0 refl, refl))))
 
       by : x .phy < 8 → Done-turns (disabledDone p f r x)
       by k = by-name f (λ t. left t (isCancelled r)) (λ h. named (isCancelled r) h (busy (x .phy) k h)) (nameless-rests (left false (isCancelled r)) refl refl refl)

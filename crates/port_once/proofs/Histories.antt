@@ -7,9 +7,9 @@ use mathlib.Core.List.{List, [], _∷_, _++_}
 use mathlib.Core.Logic.{_⊎_, inl, inr}
 use native.Mathlib.Omega.{arith}
 use native.Mathlib.Decide.{decLt}
-use lib.Dec.{eqb}
+use lib.Dec.{eqb, ltb}
 use lib.ListN.{getD}
-use borrow.Author.Tests.{eqb-true, eqb-false, eq-eqb}
+use borrow.Author.Tests.{eqb-true, eqb-false, eq-eqb, ltb-true}
 use Rattle.laws.specs.Sets.{bit}
 use Rattle.laws.proofs.Bools.{never, and-true, and-false}
 use Rattle.laws.proofs.Tests.{Says, equal, both}
@@ -24,7 +24,7 @@ use Rattle.port_core.specs.declared.Word.{Word}
 use Rattle.port_core.specs.declared.Word.the-variants.{Taken, Submitted, Nothing, Send, Open, Close, StopArb, Retried, Waiting, CancelAcknowledged, Ended, NexusLoss, ConnectionLost, Status, Refused}
 use Rattle.port.specs.Grounds.{HasKey, Absent}
 use Rattle.port.specs.History.{Call, Entry, isLast, isRefused}
-use Rattle.port_once.specs.Standing.{isSetup, isSubmitted, isOf, accepts, ends, submits, lastWords, Standing, gone, there, wrong, sameHead, accepted, ended, after, standing, silent}
+use Rattle.port_once.specs.Standing.{isSetup, isSubmitted, isOf, accepts, ends, speaks, submits, lastWords, Standing, gone, there, wrong, sameHead, agrees, accepted, ended, spoken, after, standing}
 use Rattle.port_once.specs.Turns.{keyed, Stays, OthersStay, Comes, Leaves, Rests, Turns, Holds}
 
 -- ---- words and keys
@@ -77,21 +77,25 @@ module _ (x : Key) (c : Call) (a : Answer) (v : Standing) where
   abbrev entry : Entry
   entry = record { call = c; answer = a }
 
+  -- the standing by what the entry is: a setup, a last word on x, Submitted of x, another answer that names x
+  abbrev by-kind : Bool → Bool → Bool → Bool → Standing
+  by-kind s l f n = cond s gone (cond l (ended a v) (cond f (accepted a v) (cond n (spoken a v) v)))
+
   after-setup : isSetup c ≡ true → after x entry v ≡ gone
-  after-setup s = ap (λ (t : Bool). cond t gone (cond (ends x entry) (ended a v) (cond (accepts x entry) (accepted a v) v))) s
+  after-setup s = ap (λ (t : Bool). by-kind t (ends x entry) (accepts x entry) (speaks x entry)) s
 
   after-last : isSetup c ≡ false → isLast (a .word) ≡ true → isOf (a .frame .head) x ≡ true → after x entry v ≡ ended a v
-  after-last s l k = λ i. cond (s i) gone (cond (l i && k i) (ended a v) (cond (accepts x entry) (accepted a v) v))
+  after-last s l k = λ i. by-kind (s i) (l i && k i) (accepts x entry) (speaks x entry)
 
   after-first : isSetup c ≡ false → isSubmitted (a .word) ≡ true → isOf (a .frame .head) x ≡ true → after x entry v ≡ accepted a v
-  after-first s f k =
-      λ i. cond (s i) gone (cond (first-is-not-last (a .word) f i && isOf (a .frame .head) x) (ended a v) (cond (f i && k i) (accepted a v) v))
+  after-first s f k = λ i. by-kind (s i) (first-is-not-last (a .word) f i && isOf (a .frame .head) x) (f i && k i) (speaks x entry)
 
-  after-none : isSetup c ≡ false → ends x entry ≡ false → accepts x entry ≡ false → after x entry v ≡ v
-  after-none s l f = λ i. cond (s i) gone (cond (l i) (ended a v) (cond (f i) (accepted a v) v))
+  -- neither Submitted nor a last word
+  after-word : isSetup c ≡ false → isLast (a .word) ≡ false → isSubmitted (a .word) ≡ false → after x entry v ≡ cond (speaks x entry) (spoken a v) v
+  after-word s l f = λ i. by-kind (s i) (l i && isOf (a .frame .head) x) (f i && isOf (a .frame .head) x) (speaks x entry)
 
   after-other : isSetup c ≡ false → isOf (a .frame .head) x ≡ false → after x entry v ≡ v
-  after-other s k = after-none s (and-false (isLast (a .word)) k) (and-false (isSubmitted (a .word)) k)
+  after-other s k = λ i. by-kind (s i) (and-false (isLast (a .word)) k i) (and-false (isSubmitted (a .word)) k i) (and-false (ltb (a .slot) 32) k i)
 
 -- ---- the list holds what the history says
 
@@ -149,11 +153,22 @@ module _ (p : Port) (l m : List Request) (a : Answer) (kept : Kept p l) (x : Key
   blank-free : Leaves l m a → HasKey (getD m (a .slot) blank) x → ⊥
   blank-free d q = q .0 (ap (λ (r : Request). r .stage) (d .zeros))
 
+  -- the request that an answer names
+  named-key : (Free (getD l (a .slot) blank) → ⊥) → getD l (a .slot) blank .head ≡ a .frame .head → isOf (a .frame .head) x ≡ true → HasKey (getD l (a .slot) blank) x
+  named-key present head k = (present, subst (λ (g : Head). OfKey g x) (sym head) (of-says (a .frame .head) x .0 k))
+
+  -- is the one that is there, since no two share a key
+  agreed : a .slot < 32 → HasKey (getD l (a .slot) blank) x → getD l (a .slot) blank .head ≡ a .frame .head → (slot : ℕ) (head : Head) → Holds x (there slot head) l → agrees a slot head ≡ true
+  agreed below named is slot head h =
+      let at : slot ≡ a .slot = one-of-key p l x kept slot (a .slot) (h .0) below (h .1 .0) named in
+      let same : head ≡ a .frame .head = sym (h .1 .1) ∙ ap (λ (n : ℕ). getD l n blank .head) at ∙ is in
+      and-true (eq-eqb slot (a .slot) at) (ap (λ (g : Head). sameHead g (a .frame .head)) same ∙ same-head (a .frame .head))
+
   left : Leaves l m a → isOf (a .frame .head) x ≡ true → (v : Standing) → Holds x v l → Holds x (ended a v) m
   left d k v h = by v h
     where
       leaver : HasKey (getD l (a .slot) blank) x
-      leaver = (d .present, subst (λ (g : Head). OfKey g x) (sym (d .head)) (of-says (a .frame .head) x .0 k))
+      leaver = named-key (d .present) (d .head) k
 
       -- every other record has another key
       none-left : Absent m x
@@ -167,16 +182,26 @@ module _ (p : Port) (l m : List Request) (a : Answer) (kept : Kept p l) (x : Key
 
       by : (v : Standing) → Holds x v l → Holds x (ended a v) m
       by gone h = h (a .slot) (d .slot) leaver
-      by (there slot head) h =
-          let at : slot ≡ a .slot = one-of-key p l x kept slot (a .slot) (h .0) (d .slot) (h .1 .0) leaver in
-          let same : head ≡ a .frame .head = sym (h .1 .1) ∙ ap (λ (n : ℕ). getD l n blank .head) at ∙ d .head in
-          let agrees : eqb slot (a .slot) && sameHead head (a .frame .head) ≡ true = and-true (eq-eqb slot (a .slot) at) (ap (λ (g : Head). sameHead g (a .frame .head)) same ∙ same-head (a .frame .head)) in
-          subst (λ (t : Bool). Holds x (cond t gone wrong) m) (sym agrees) none-left
+      by (there slot head) h = subst (λ (t : Bool). Holds x (cond t gone wrong) m) (sym (agreed (d .slot) leaver (d .head) slot head h)) none-left
       by wrong h = h
 
   left-other : Leaves l m a → isOf (a .frame .head) x ≡ false → (v : Standing) → Holds x v l → Holds x v m
   left-other d k v =
       still v (aside (d .others) (λ q. never (sym k ∙ of-says (a .frame .head) x .1 (subst (λ (g : Head). OfKey g x) (d .head) (q .1)))) (blank-free d))
+
+  -- ---- none comes and none leaves
+
+  rested : Rests l m a → isOf (a .frame .head) x ≡ true → a .slot < 32 → (v : Standing) → Holds x v l → Holds x (spoken a v) m
+  rested d k below v h = by v h
+    where
+      named : HasKey (getD l (a .slot) blank) x
+      named = named-key (d .named below .0) (d .named below .1) k
+
+      by : (v : Standing) → Holds x v l → Holds x (spoken a v) m
+      by gone h = h (a .slot) below named
+      by (there slot head) h =
+          subst (λ (t : Bool). Holds x (cond t (there slot head) wrong) m) (sym (agreed below named (d .named below .1) slot head h)) (still (there slot head) (λ i b _. d .all i b) h)
+      by wrong h = h
 
   -- ---- any call that is no setup
 
@@ -191,8 +216,12 @@ module _ (p : Port) (l m : List Request) (a : Answer) (kept : Kept p l) (x : Key
       by true k (inr (inl leave)) = to (after-last x c a v s (leave .word) k) (left leave k v h)
       by false k (inl come) = to (after-other x c a v s k) (came-other come k v h)
       by false k (inr (inl leave)) = to (after-other x c a v s k) (left-other leave k v h)
-      by t k (inr (inr rest)) =
-          to (after-none x c a v s (λ i. rest .last i && isOf (a .frame .head) x) (λ i. rest .submitted i && isOf (a .frame .head) x)) (still v (λ i below _. rest .all i below) h)
+      by true k (inr (inr rest)) = to (after-word x c a v s (rest .last) (rest .submitted)) (spoke (ltb (a .slot) 32) refl)
+        where
+          spoke : (u : Bool) → ltb (a .slot) 32 ≡ u → Holds x (cond (speaks x (record { call = c; answer = a })) (spoken a v) v) m
+          spoke true b = subst (λ (u : Bool). Holds x (cond u (spoken a v) v) m) (sym (and-true b k)) (rested rest k (ltb-true (a .slot) 32 b) v h)
+          spoke false b = subst (λ (u : Bool). Holds x (cond (u && isOf (a .frame .head) x) (spoken a v) v) m) (sym b) (still v (λ i below _. rest .all i below) h)
+      by false k (inr (inr rest)) = to (after-other x c a v s k) (still v (λ i below _. rest .all i below) h)
 
 -- a setup leaves none
 pub holds-anew : (x : Key) (c : Call) (a : Answer) (v : Standing) (m : List Request) → isSetup c ≡ true → ((i : ℕ) → i < 32 → getD m i blank ≡ blank) → Holds x (after x (record { call = c; answer = a }) v) m
@@ -205,28 +234,36 @@ one gone = 0
 one (there slot head) = 1
 one wrong = 0
 
--- one entry more: whether it is a setup, a last word, Submitted
-count-step : (a : Answer) (s l f : Bool) (v : Standing) (m n : ℕ) → (l ≡ true → f ≡ false) → ((v ≡ wrong → ⊥) → m ≡ n + one v)
-    → (cond s gone (cond l (ended a v) (cond f (accepted a v) v)) ≡ wrong → ⊥) → cond s 0 (bit f + m) ≡ cond s 0 (bit l + n) + one (cond s gone (cond l (ended a v) (cond f (accepted a v) v)))
-count-step a true l f v m n apart before fine = refl
-count-step a false true true v m n apart before fine = absurd (never (sym (apart refl)))
-count-step a false true false gone m n apart before fine = absurd (fine refl)
-count-step a false true false (there slot head) m n apart before fine = by (eqb slot (a .slot) && sameHead head (a .frame .head)) fine
+pub there-not-wrong : {slot : ℕ} {head : Head} → there slot head ≡ wrong → ⊥
+there-not-wrong e = let z : _≡_ {A = ℕ} 0 1 = cc in omega arith
+
+pub gone-not-wrong : gone ≡ wrong → ⊥
+gone-not-wrong e = let z : _≡_ {A = ℕ} 0 1 = cc in omega arith
+
+-- one entry more: whether it is a setup, a last word, Submitted, another answer that names the key
+count-step : (a : Answer) (s l f n : Bool) (v : Standing) (i j : ℕ) → (l ≡ true → f ≡ false) → ((v ≡ wrong → ⊥) → i ≡ j + one v)
+    → (cond s gone (cond l (ended a v) (cond f (accepted a v) (cond n (spoken a v) v))) ≡ wrong → ⊥)
+    → cond s 0 (bit f + i) ≡ cond s 0 (bit l + j) + one (cond s gone (cond l (ended a v) (cond f (accepted a v) (cond n (spoken a v) v))))
+count-step a true l f n v i j apart before fine = refl
+count-step a false true true n v i j apart before fine = absurd (never (sym (apart refl)))
+count-step a false true false n gone i j apart before fine = absurd (fine refl)
+count-step a false true false n (there slot head) i j apart before fine = by (agrees a slot head) fine
   where
-    by : (t : Bool) → (cond t gone wrong ≡ wrong → ⊥) → 0 + m ≡ (1 + n) + one (cond t gone wrong)
-    by true ok = let were = before (λ e. apart-from e) in omega (arith, were)
-      where
-        apart-from : there slot head ≡ wrong → ⊥
-        apart-from e = let z : _≡_ {A = ℕ} 0 1 = cc in omega arith
+    by : (t : Bool) → (cond t gone wrong ≡ wrong → ⊥) → 0 + i ≡ (1 + j) + one (cond t gone wrong)
+    by true ok = let were = before there-not-wrong in omega (arith, were)
     by false ok = absurd (ok refl)
-count-step a false true false wrong m n apart before fine = absurd (fine refl)
-count-step a false false true gone m n apart before fine = let were = before (λ e. apart-from e) in omega (arith, were)
+count-step a false true false n wrong i j apart before fine = absurd (fine refl)
+count-step a false false true n gone i j apart before fine = let were = before gone-not-wrong in omega (arith, were)
+count-step a false false true n (there slot head) i j apart before fine = absurd (fine refl)
+count-step a false false true n wrong i j apart before fine = absurd (fine refl)
+count-step a false false false true gone i j apart before fine = absurd (fine refl)
+count-step a false false false true (there slot head) i j apart before fine = by (agrees a slot head) fine
   where
-    apart-from : gone ≡ wrong → ⊥
-    apart-from e = let z : _≡_ {A = ℕ} 0 1 = cc in omega arith
-count-step a false false true (there slot head) m n apart before fine = absurd (fine refl)
-count-step a false false true wrong m n apart before fine = absurd (fine refl)
-count-step a false false false v m n apart before fine = let were = before fine in omega (arith, were)
+    by : (t : Bool) → (cond t (there slot head) wrong ≡ wrong → ⊥) → 0 + i ≡ (0 + j) + one (cond t (there slot head) wrong)
+    by true ok = let were = before there-not-wrong in omega (arith, were)
+    by false ok = absurd (ok refl)
+count-step a false false false true wrong i j apart before fine = absurd (fine refl)
+count-step a false false false false v i j apart before fine = let were = before fine in omega (arith, were)
 
 apart-words : (x : Key) (e : Entry) → ends x e ≡ true → accepts x e ≡ false
 apart-words x e l = by (isLast (e .answer .word)) refl l
@@ -238,4 +275,4 @@ apart-words x e l = by (isLast (e .answer .word)) refl l
 -- submits and last words of a key that alternate differ by one where a request is there, and by none where it is gone
 pub counted : (x : Key) (h : List Entry) → (standing x h ≡ wrong → ⊥) → submits x h ≡ lastWords x h + one (standing x h)
 counted x [] fine = refl
-counted x (e ∷ h) fine = count-step (e .answer) (isSetup (e .call)) (ends x e) (accepts x e) (standing x h) (submits x h) (lastWords x h) (apart-words x e) (counted x h) fine
+counted x (e ∷ h) fine = count-step (e .answer) (isSetup (e .call)) (ends x e) (accepts x e) (speaks x e) (standing x h) (submits x h) (lastWords x h) (apart-words x e) (counted x h) fine

@@ -15,12 +15,12 @@ use Rattle.port_core.specs.declared.Answer.{Answer}
 use Rattle.port_core.specs.declared.Key.{Key}
 use Rattle.port.specs.Grounds.{HasKey, Absent}
 use Rattle.port.specs.History.{State, Call, setup, steppedBy, leave, run, Entry, entriesOf, history}
-use Rattle.port_once.specs.Standing.{isSetup, isSubmitted, accepts, ends, submits, lastWords, Standing, gone, there, wrong, accepted, ended, after, standing, silent}
+use Rattle.port_once.specs.Standing.{isSetup, isSubmitted, accepts, ends, speaks, submits, lastWords, Standing, gone, there, wrong, agrees, accepted, ended, spoken, standing, silent}
 use Rattle.port_once.specs.Turns.{keyed, Holds, KeepsRules}
 use Rattle.port_once.specs.Runs.{Run, now, past}
 use Rattle.port_once.proofs.Steps.{begun, begins}
 use Rattle.port_once.proofs.Records.{cleared-at}
-use Rattle.port_once.proofs.Histories.{words, one, one-of-key, counted}
+use Rattle.port_once.proofs.Histories.{words, one, one-of-key, there-not-wrong, gone-not-wrong, counted}
 use Rattle.port_once.proofs.Runs.{comes-when, Tells, tells-anew, tells-after, tells-run}
 
 -- ---- from a setup on
@@ -98,22 +98,27 @@ history-joins (c ∷ cs) s h =
 -- entries with neither a setup nor a last word on x leave it there
 still-there : (x : Key) (slot : ℕ) (head : Head) (h q : List Entry) → silent x q ≡ true → standing x h ≡ there slot head → (standing x (q ++ h) ≡ wrong → ⊥) → standing x (q ++ h) ≡ there slot head
 still-there x slot head h [] quiet at fine = at
-still-there x slot head h (e ∷ q) quiet at fine = by (isSetup (e .call)) (ends x e) (accepts x e) (standing x (q ++ h)) quiet (λ still ok. still-there x slot head h q still at ok) fine
+still-there x slot head h (e ∷ q) quiet at fine = by (isSetup (e .call)) (ends x e) (accepts x e) (speaks x e) (standing x (q ++ h)) quiet (λ still ok. still-there x slot head h q still at ok) fine
   where
-    by : (s l f : Bool) (v : Standing) → cond s false (cond l false (silent x q)) ≡ true → (silent x q ≡ true → (v ≡ wrong → ⊥) → v ≡ there slot head)
-        → (cond s gone (cond l (ended (e .answer) v) (cond f (accepted (e .answer) v) v)) ≡ wrong → ⊥) → cond s gone (cond l (ended (e .answer) v) (cond f (accepted (e .answer) v) v)) ≡ there slot head
-    by true l f v quiet before fine = absurd (never quiet)
-    by false true f v quiet before fine = absurd (never quiet)
-    by false false false v quiet before fine = before quiet fine
-    by false false true gone quiet before fine = absurd (other (before quiet (λ e. apart e)))
+    by : (s l f n : Bool) (v : Standing) → cond s false (cond l false (silent x q)) ≡ true → (silent x q ≡ true → (v ≡ wrong → ⊥) → v ≡ there slot head)
+        → (cond s gone (cond l (ended (e .answer) v) (cond f (accepted (e .answer) v) (cond n (spoken (e .answer) v) v))) ≡ wrong → ⊥)
+        → cond s gone (cond l (ended (e .answer) v) (cond f (accepted (e .answer) v) (cond n (spoken (e .answer) v) v))) ≡ there slot head
+    by true l f n v quiet before fine = absurd (never quiet)
+    by false true f n v quiet before fine = absurd (never quiet)
+    by false false true n gone quiet before fine = absurd (other (before quiet gone-not-wrong))
       where
         other : gone ≡ there slot head → ⊥
         other e = let z : _≡_ {A = ℕ} 0 1 = cc in omega arith
-
-        apart : gone ≡ wrong → ⊥
-        apart e = let z : _≡_ {A = ℕ} 0 1 = cc in omega arith
-    by false false true (there s g) quiet before fine = absurd (fine refl)
-    by false false true wrong quiet before fine = absurd (fine refl)
+    by false false true n (there s g) quiet before fine = absurd (fine refl)
+    by false false true n wrong quiet before fine = absurd (fine refl)
+    by false false false true gone quiet before fine = absurd (fine refl)
+    by false false false true (there s g) quiet before fine = same (agrees (e .answer) s g) fine
+      where
+        same : (t : Bool) → (cond t (there s g) wrong ≡ wrong → ⊥) → cond t (there s g) wrong ≡ there slot head
+        same true ok = before quiet there-not-wrong
+        same false ok = absurd (ok refl)
+    by false false false true wrong quiet before fine = absurd (fine refl)
+    by false false false false v quiet before fine = before quiet fine
 
 -- a request that a call c submits
 module _ (keeps : KeepsRules) (r : Run) (c : Call) (submitted : isSubmitted (steppedBy c (now r) .answer .word) ≡ true) where

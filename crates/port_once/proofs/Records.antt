@@ -81,13 +81,15 @@ module _ (l : List Request) (d : Done) (len : length l ≡ 32) where
     leaves word slot there head zeros =
         inr (inl (record { word = word; slot = slot; present = there; head = head; zeros = at-slot slot ∙ zeros; others = others-stay }))
 
-    pub rests : isSubmitted (d .answer .word) ≡ false → isLast (d .answer .word) ≡ false → (d .answer .slot < 32 → Stays (getD l (d .answer .slot) blank) (d .entry))
+    -- a present request stays one, or the answer names none
+    pub rests : isSubmitted (d .answer .word) ≡ false → isLast (d .answer .word) ≡ false
+        → (d .answer .slot < 32 → (Free (getD l (d .answer .slot) blank) → ⊥) × ((getD l (d .answer .slot) blank .head ≡ d .answer .frame .head) × ((Free (d .entry) → ⊥) × (d .entry .head ≡ d .answer .frame .head))))
         → Turns l (leftOf l d) (d .answer)
-    rests submitted last entry = inr (inr (record { submitted = submitted; last = last; all = λ i h. by i h (eqb i (d .answer .slot)) refl }))
+    rests submitted last entry = inr (inr (record { submitted = submitted; last = last; named = λ h. (entry h .0, entry h .1 .0); all = λ i h. by i h (eqb i (d .answer .slot)) refl }))
       where
         by : (i : ℕ) → i < 32 → (t : Bool) → eqb i (d .answer .slot) ≡ t → Stays (getD l i blank) (getD (leftOf l d) i blank)
         by i h true e =
             let at : i ≡ d .answer .slot = eqb-true i (d .answer .slot) e in
             let slot : d .answer .slot < 32 = omega (arith, at, h) in
-            subst (λ (k : ℕ). Stays (getD l k blank) (getD (leftOf l d) k blank)) (sym at) (subst (Stays (getD l (d .answer .slot) blank)) (sym (at-slot slot)) (entry slot))
+            subst (λ (k : ℕ). Stays (getD l k blank) (getD (leftOf l d) k blank)) (sym at) (subst (Stays (getD l (d .answer .slot) blank)) (sym (at-slot slot)) (stays-there (entry slot .0) (entry slot .1 .1 .0) (entry slot .1 .1 .1 ∙ sym (entry slot .1 .0))))
         by i h false e = others-stay i h (eqb-false i (d .answer .slot) e)

@@ -25,7 +25,7 @@ use Rattle.port_once.specs.Standing.{isSetup, isSubmitted, standing}
 use Rattle.port_once.specs.Turns.{Stays, Comes, Leaves, Rests, Turns, Holds, Lawful, KeepsRules, Zeros}
 use Rattle.port_once.proofs.Records.{stays-self}
 use Rattle.port_once.proofs.Cores.{turned}
-use Rattle.port_once.proofs.Steps.{Step, refused, taken, step, answers, taken-state, taken-entry, lawful-after, setup-zeros, setup-says}
+use Rattle.port_once.proofs.Steps.{Step, refused, taken, step, answers, refused-names-none, taken-state, taken-entry, lawful-after, setup-zeros, setup-says}
 use Rattle.port_once.proofs.Histories.{words, holds-on, holds-anew}
 
 -- ---- one call
@@ -91,7 +91,8 @@ module _ (c : Call) (s : State) (ok : Lawful s) where
 
       by : (t : Bool) → isRefused said ≡ t → Rests (s .list) (leave c s .list) (steppedBy c s .answer)
       by true e =
-          subst (λ (t : State). Rests (s .list) (t .list) (steppedBy c s .answer)) (sym (refused-nothing c s e .0)) (record { submitted = first; last = last; all = λ i h. stays-self (getD (s .list) i blank) })
+          subst (λ (t : State). Rests (s .list) (t .list) (steppedBy c s .answer)) (sym (refused-nothing c s e .0))
+          (record { submitted = first; last = last; named = λ h. absurd (let none = refused-names-none c s (ok .list) e in omega (arith, h, none)); all = λ i h. stays-self (getD (s .list) i blank) })
       by false e = taken-so (turns-of c s ok plain e)
 
 -- ---- free records

@@ -24,6 +24,7 @@ use Rattle.port_rules.proofs.Facts.{range-says}
 use Rattle.port_core.specs.Answers.{later, withPhy, fresh, noPort, idlePhy, openingPhy, joinedPhy, stagedPhy, unchanged, told, refusedBy}
 use Rattle.port_core.specs.Calls.{phyAt, marked, isCancelled, isJoined, timerAfter, closedPhy, bare, submitted, cancelled, sent, opening, closing, idle, chosen, connected, failed, framed, closedDone, disabledDone, submitCauses, cancelCauses, chooseCauses, phyCauses, failedCauses, setupOf, submitOf, cancelOf, chooseOf, openedOf, openFailedOf, frameStatusOf, closedOf, enableOf, disableOf}
 use Rattle.port_core.specs.Finds.{roomOf, keyOf}
+use Rattle.port_core.specs.declared.Answer.{Answer}
 use Rattle.port_core.specs.declared.Done.{Done}
 use Rattle.port_core.specs.declared.Word.{Word}
 use Rattle.port_core.specs.declared.Word.the-variants.{Taken, Submitted, Send, Close, StopArb, Retried, Waiting, CancelAcknowledged, NexusLoss, ConnectionLost, Status}
@@ -178,6 +179,17 @@ refused-stays c s e = by (verdict s c)
     by : Verdict s (doneOf c s) → leftOf (s .list) (doneOf c s) ≡ s .list
     by (stopped q k is eight) = ap (leftOf (s .list)) is ∙ refused-leaves (s .list) q k
     by (passed w eight) = absurd (never (sym w ∙ e))
+
+-- and names no slot
+pub refused-names-none : (c : Call) (s : State) → length (s .list) ≡ 32 → isRefused (steppedBy c s .answer .word) ≡ true → steppedBy c s .answer .slot ≡ 32
+refused-names-none c s len e = same (λ (a : Answer). a .slot) ∙ by (verdict s c)
+  where
+    same : {A : Type 0} (f : Answer → A) → f (steppedBy c s .answer) ≡ f (doneOf c s .answer)
+    same f = ap (λ (r : Stepped). f (r .answer)) (answers c s len)
+
+    by : Verdict s (doneOf c s) → doneOf c s .answer .slot ≡ 32
+    by (stopped q k is eight) = ap (λ (d : Done). d .answer .slot) is
+    by (passed w eight) = absurd (never (sym w ∙ sym (same (λ (a : Answer). isRefused (a .word))) ∙ e))
 
 -- ---- what the promise admits is what the history says
 

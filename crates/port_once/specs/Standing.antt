@@ -3,7 +3,7 @@
 use Prim.Native.Nat.{ℕ, _+_}
 use mathlib.Core.Bool.{Bool, true, false, cond, _&&_}
 use mathlib.Core.List.{List, [], _∷_}
-use lib.Dec.{eqb}
+use lib.Dec.{eqb, ltb}
 use Rattle.laws.specs.Sets.{bit}
 use Rattle.open_frame.specs.declared.Head.{Head}
 use Rattle.port_core.specs.declared.Answer.{Answer}
@@ -53,6 +53,10 @@ accepts x e = isSubmitted (e .answer .word) && isOf (e .answer .frame .head) x
 abbrev pub ends : Key → Entry → Bool
 ends x e = isLast (e .answer .word) && isOf (e .answer .frame .head) x
 
+-- the answer names a request with the key x
+abbrev pub speaks : Key → Entry → Bool
+speaks x e = ltb (e .answer .slot) 32 && isOf (e .answer .frame .head) x
+
 -- ---- how many, since the last setup
 
 abbrev pub submits : Key → List Entry → ℕ
@@ -66,7 +70,7 @@ lastWords x (e ∷ older) = cond (isSetup (e .call)) 0 (bit (ends x e) + lastWor
 -- ---- whether submits and last words alternate
 
 -- a request with the key is gone, or there with the slot and head that its Submitted named; wrong is a second submit before a last word,
--- and a last word on what is not there or at another slot or with another head
+-- and any other answer that names it where it is not there, or by another slot or head
 pub data Standing : Type 0 where
   gone : Standing
   there : ℕ → Head → Standing
@@ -84,13 +88,23 @@ accepted a gone = there (a .slot) (a .frame .head)
 accepted a (there slot head) = wrong
 accepted a wrong = wrong
 
+abbrev pub agrees : Answer → ℕ → Head → Bool
+agrees a slot head = eqb slot (a .slot) && sameHead head (a .frame .head)
+
 abbrev pub ended : Answer → Standing → Standing
 ended a gone = wrong
-ended a (there slot head) = cond (eqb slot (a .slot) && sameHead head (a .frame .head)) gone wrong
+ended a (there slot head) = cond (agrees a slot head) gone wrong
 ended a wrong = wrong
 
+abbrev pub spoken : Answer → Standing → Standing
+spoken a gone = wrong
+spoken a (there slot head) = cond (agrees a slot head) (there slot head) wrong
+spoken a wrong = wrong
+
 abbrev pub after : Key → Entry → Standing → Standing
-after x e v = cond (isSetup (e .call)) gone (cond (ends x e) (ended (e .answer) v) (cond (accepts x e) (accepted (e .answer) v) v))
+after x e v =
+    cond (isSetup (e .call)) gone
+    (cond (ends x e) (ended (e .answer) v) (cond (accepts x e) (accepted (e .answer) v) (cond (speaks x e) (spoken (e .answer) v) v)))
 
 -- a history has its latest entry first
 abbrev pub standing : Key → List Entry → Standing

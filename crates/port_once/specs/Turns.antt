@@ -47,9 +47,11 @@ module _ (l m : List Request) (a : Answer) where
     pub zeros : getD m (a .slot) blank ≡ blank
     pub others : OthersStay
 
+  -- an answer that names a request names one that is there
   pub record Rests : Type 0 where
     pub submitted : isSubmitted (a .word) ≡ false
     pub last : isLast (a .word) ≡ false
+    pub named : a .slot < 32 → (Free (getD l (a .slot) blank) → ⊥) × (getD l (a .slot) blank .head ≡ a .frame .head)
     pub all : (i : ℕ) → i < 32 → Stays (getD l i blank) (getD m i blank)
 
   abbrev pub Turns : Type 0
