@@ -57,10 +57,10 @@ first-is-not-last w e = by (isLast w) refl
     by true l = absurd (never (sym (last-is-not-first w l) ∙ e))
     by false l = refl
 
-abbrev OfKey : Head → Key → Type 0
+abbrev pub OfKey : Head → Key → Type 0
 OfKey h x = (h .destination ≡ x .destination) × ((h .protocol ≡ x .protocol) × (h .tag ≡ x .tag))
 
-of-says : (h : Head) (x : Key) → Says (isOf h x) (OfKey h x)
+pub of-says : (h : Head) (x : Key) → Says (isOf h x) (OfKey h x)
 of-says h x = both (equal (h .destination) (x .destination)) (both (equal (h .protocol) (x .protocol)) (equal (h .tag) (x .tag)))
 
 same-head : (h : Head) → sameHead h h ≡ true

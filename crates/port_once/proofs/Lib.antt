@@ -5,3 +5,4 @@ pub mod Steps
 pub mod Histories
 pub mod Runs
 pub mod Leaving
+pub mod Ends

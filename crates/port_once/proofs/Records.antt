@@ -48,7 +48,7 @@ module _ (l : List Request) (d : Done) (len : length l ≡ 32) where
   cleared-at all i h = left-at l d i len h ∙ ap (λ (t : Bool). cond t blank (cond (eqb i (d .answer .slot)) (d .entry) (spread (d .loss) (getD l i blank)))) all
 
   module _ (some : d .cleared ≡ false) where
-    at-slot : d .answer .slot < 32 → getD (leftOf l d) (d .answer .slot) blank ≡ d .entry
+    pub at-slot : d .answer .slot < 32 → getD (leftOf l d) (d .answer .slot) blank ≡ d .entry
     at-slot h =
         left-at l d (d .answer .slot) len h
         ∙ (λ k. cond (some k) blank (cond (eq-eqb (d .answer .slot) (d .answer .slot) refl k) (d .entry) (spread (d .loss) (getD l (d .answer .slot) blank))))

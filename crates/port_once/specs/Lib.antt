@@ -2,3 +2,4 @@
 pub mod Standing
 pub mod Turns
 pub mod Runs
+pub mod Ends
