@@ -84,7 +84,7 @@ module _ (s : State) (ok : Lawful s) where
 
   submit-turns : (x : Wish) → Turned (submitCall l p x)
   unfolding submitOf
-  submit-turns x = by-causes Turned (refusedBy p) stopped (submitCauses p (rules p l) (roomOf l (x .head)) x) taken (λ off e. by (off .1 .1 .1 .0) (leb-false 32 (roomOf l (x .head) .free) (off .1 .1 .1 .1 .0)) (lowest-free l (x .head)))
+  submit-turns x = by-causes Turned (refusedBy p) stopped (submitCauses p (rules p l) (roomOf l (x .head)) x) taken (λ pass e. by (pass .1 .1 .1 .0) (leb-false 32 (roomOf l (x .head) .free) (pass .1 .1 .1 .1 .0)) (lowest-free l (x .head)))
     where
       entry : Request
       entry = submitted (roomOf l (x .head)) x
@@ -93,7 +93,7 @@ module _ (s : State) (ok : Lawful s) where
       taken = told (later p (x .now)) Submitted (roomOf l (x .head) .free) 8 entry entry unchanged
 
       by : roomOf l (x .head) .same ≡ false → roomOf l (x .head) .free < 32 → Found blank isFree l 32 32 (roomOf l (x .head) .free) → Done-turns taken
-      by new room (none e off) = absurd (omega (arith, e, room))
+      by new room (none e nowhere) = absurd (omega (arith, e, room))
       by new room (at m t low) =
           comes l taken (ok .list) refl refl m (eqb-true (getD l (roomOf l (x .head) .free) blank .stage) 0 t) (λ i h free. never (sym (low i h) ∙ eq-eqb (getD l i blank .stage) 0 free))
           (λ i h has. never (sym new ∙ same-says x .1 (record { slot = i; below = h; there = has .0; same = has .1 }))) (not-free entry 0 refl) refl
@@ -117,13 +117,13 @@ module _ (s : State) (ok : Lawful s) where
   unfolding cancelOf
   cancel-turns x =
       by-causes Turned (refusedBy p) stopped (cancelCauses p r (rules p l) (keyOf l (x .key)) x) (cancelled p r (keyOf l (x .key)) (x .now))
-      (λ off e. by (leb-false 32 (keyOf l (x .key)) (nor (leb 32 (keyOf l (x .key))) (isCancelled r) (off .1 .1 .1 .0) .0)) (key-found l (x .key)))
+      (λ pass e. by (leb-false 32 (keyOf l (x .key)) (nor (leb 32 (keyOf l (x .key))) (isCancelled r) (pass .1 .1 .1 .0) .0)) (key-found l (x .key)))
     where
       r : Request
       r = getD l (keyOf l (x .key)) blank
 
       by : keyOf l (x .key) < 32 → Found blank (λ q. hasKey q (x .key)) l 32 32 (keyOf l (x .key)) → Done-turns (cancelled p r (keyOf l (x .key)) (x .now))
-      by there (none e off) = absurd (omega (arith, e, there))
+      by there (none e nowhere) = absurd (omega (arith, e, there))
       by there (at m t low) =
           cancelled-turns r (keyOf l (x .key)) (x .now) refl m (λ f. never (sym (not-true (isFree r) (and-left (not (isFree r)) (isOfKey r) t)) ∙ eq-eqb (r .stage) 0 f))
         where
@@ -132,14 +132,14 @@ module _ (s : State) (ok : Lawful s) where
 
   -- ---- choose
 
-  waits : (r : Request) (f : Phy) (now step : ℕ) → Qualifies now r f step → r .stage ≡ 1
+  pub waits : (r : Request) (f : Phy) (now step : ℕ) → Qualifies now r f step → r .stage ≡ 1
   waits r f now step (sends a ready b c) = ready .0
   waits r f now step (opens a ready b) = ready .0
   waits r f now step (closes a ready b c d) = ready .0
 
   chosen-turns : (now : ℕ) (b : Pick) → Right (p .phys) now l b → Done-turns (chosen p (getD l (b .slot) blank) b now)
   unfolding chosen
-  chosen-turns now b (none off) = rests l (idle p now) (ok .list) refl refl refl (λ h. absurd (omega arith))
+  chosen-turns now b (none nowhere) = rests l (idle p now) (ok .list) refl refl refl (λ h. absurd (omega arith))
   chosen-turns now b (one w) =
       let there = not-free r 0 (waits r _ now (b .step) (w .fits)) in
       by-test Done-turns (eqb (b .step) 1)
@@ -157,15 +157,15 @@ module _ (s : State) (ok : Lawful s) where
   unfolding chooseOf
   choose-turns x =
       by-causes Turned (refusedBy p) stopped (chooseCauses p (rules p l) (x .now)) (chosen p (getD l (pickAt l p (x .now) .slot) blank) (pickAt l p (x .now)) (x .now))
-      (λ off e. chosen-turns (x .now) (pickAt l p (x .now)) (choose-right (record { phys = p .phys; now = x .now }) l (ok .phys)))
+      (λ pass e. chosen-turns (x .now) (pickAt l p (x .now)) (choose-right (record { phys = p .phys; now = x .now }) l (ok .phys)))
 
   -- ---- a phy's calls
 
   -- the phy is one of the port's
-  numbered : (k now : ℕ) (unfit : Bool) → NoneGiven (phyCauses p (rules p l) k now unfit) → k < 8
-  numbered k now unfit off = let below = ltb-true k (p .count) (not-false (ltb k (p .count)) (off .1 .0)) in let most = ok .kept .setup .most in omega arith
+  pub numbered : (k now : ℕ) (unfit : Bool) → NoneGiven (phyCauses p (rules p l) k now unfit) → k < 8
+  numbered k now unfit pass = let below = ltb-true k (p .count) (not-false (ltb k (p .count)) (pass .1 .0)) in let most = ok .kept .setup .most in omega arith
 
-  phy-kept : (k : ℕ) → k < 8 → PhyKept (p .count) (phyAt p k) k
+  pub phy-kept : (k : ℕ) → k < 8 → PhyKept (p .count) (phyAt p k) k
   phy-kept k h = ok .kept .phys k h
 
   -- the request that a phy names is in progress
@@ -178,7 +178,7 @@ module _ (s : State) (ok : Lawful s) where
 
   opened-turns : (x : Confirmed) → Turned (openedCall l p x)
   unfolding openedOf
-  opened-turns x = by-causes Turned (refusedBy p) stopped (phyCauses p (rules p l) (x .phy) (x .now) (not (isOpening f))) (connected p f r x) (λ off e. by off)
+  opened-turns x = by-causes Turned (refusedBy p) stopped (phyCauses p (rules p l) (x .phy) (x .now) (not (isOpening f))) (connected p f r x) (λ pass e. by pass)
     where
       f : Phy
       f = phyAt p (x .phy)
@@ -190,15 +190,15 @@ module _ (s : State) (ok : Lawful s) where
       other g a b = by-test (λ (w : Word). g w ≡ false) (isCancelled r) (λ _. a) (λ _. b)
 
       by : NoneGiven (phyCauses p (rules p l) (x .phy) (x .now) (not (isOpening f))) → Done-turns (connected p f r x)
-      by off =
-          let there = busy (x .phy) (numbered (x .phy) (x .now) (not (isOpening f)) off) in
+      by pass =
+          let there = busy (x .phy) (numbered (x .phy) (x .now) (not (isOpening f)) pass) in
           rests l (connected p f r x) (ok .list) refl (other isSubmitted refl refl) (other isLast refl refl) (λ h. (there h, (refl, (there h, refl))))
 
   open-failed-turns : (x : Failure) → Turned (openFailedCall l p x)
   unfolding openFailedOf
   open-failed-turns x =
       by-causes Turned (refusedBy p) stopped (failedCauses p (rules p l) x (not (isOpening f))) (failed p f r why (x .phy) (x .now))
-      (λ off e. by (phy-kept (x .phy) (in-port off) .must (inl (eqb-true (f .stage) 2 (not-false (isOpening f) (off .1 .1 .1 .1 .0))))) (busy (x .phy) (in-port off)))
+      (λ pass e. by (phy-kept (x .phy) (in-port pass) .must (inl (eqb-true (f .stage) 2 (not-false (isOpening f) (pass .1 .1 .1 .1 .0))))) (busy (x .phy) (in-port pass)))
     where
       f : Phy
       f = phyAt p (x .phy)
@@ -210,7 +210,7 @@ module _ (s : State) (ok : Lawful s) where
       why = reasonOf (x .why)
 
       in-port : NoneGiven (failedCauses p (rules p l) x (not (isOpening f))) → x .phy < 8
-      in-port off = numbered (x .phy) (x .now) (not (isOpening f)) (off .1)
+      in-port pass = numbered (x .phy) (x .now) (not (isOpening f)) (pass .1)
 
       -- cancelled, retried, lost
       left : Bool → Bool → Bool → Done
@@ -230,7 +230,7 @@ module _ (s : State) (ok : Lawful s) where
 
   frame-status-turns : (x : Report) → Turned (frameStatusCall l p x)
   unfolding frameStatusOf
-  frame-status-turns x = by-causes Turned (refusedBy p) stopped (phyCauses p (rules p l) (x .phy) (x .now) (not (hasFrameOut f))) (framed p f r x) (λ off e. by off)
+  frame-status-turns x = by-causes Turned (refusedBy p) stopped (phyCauses p (rules p l) (x .phy) (x .now) (not (hasFrameOut f))) (framed p f r x) (λ pass e. by pass)
     where
       f : Phy
       f = phyAt p (x .phy)
@@ -245,9 +245,9 @@ module _ (s : State) (ok : Lawful s) where
           equals = either (equal (f .stage) 4) (equal (f .stage) 6) .0
 
       by : NoneGiven (phyCauses p (rules p l) (x .phy) (x .now) (not (hasFrameOut f))) → Done-turns (framed p f r x)
-      by off =
-          let k = numbered (x .phy) (x .now) (not (hasFrameOut f)) off in
-          let named = phy-kept (x .phy) k .must (out (not-false (hasFrameOut f) (off .1 .1 .1 .0))) in
+      by pass =
+          let k = numbered (x .phy) (x .now) (not (hasFrameOut f)) pass in
+          let named = phy-kept (x .phy) k .must (out (not-false (hasFrameOut f) (pass .1 .1 .1 .0))) in
           leaves l (framed p f r x) (ok .list) refl (by-test (λ (w : Word). isLast w ≡ true) (isCancelled r) (λ _. refl) (λ _. refl)) named (busy (x .phy) k named) refl refl
 
   -- a phy that may name a request: where it does, what is told is about that request
@@ -260,7 +260,7 @@ module _ (s : State) (ok : Lawful s) where
 
   closed-turns : (x : Confirmed) → Turned (closedCall l p x)
   unfolding closedOf
-  closed-turns x = by-causes Turned (refusedBy p) stopped (phyCauses p (rules p l) (x .phy) (x .now) (not (isJoined f))) (closedDone p f r x) (λ off e. by (numbered (x .phy) (x .now) (not (isJoined f)) off))
+  closed-turns x = by-causes Turned (refusedBy p) stopped (phyCauses p (rules p l) (x .phy) (x .now) (not (isJoined f))) (closedDone p f r x) (λ pass e. by (numbered (x .phy) (x .now) (not (isJoined f)) pass))
     where
       f : Phy
       f = phyAt p (x .phy)
@@ -280,14 +280,14 @@ module _ (s : State) (ok : Lawful s) where
   enable-turns : (x : Confirmed) → Turned (enableCall l p x)
   unfolding enableOf
   enable-turns x =
-      by-causes Turned (refusedBy p) stopped (phyCauses p (rules p l) (x .phy) (x .now) (not (isDisabled (phyAt p (x .phy))))) left (λ off e. nameless-rests left refl refl refl (omega arith))
+      by-causes Turned (refusedBy p) stopped (phyCauses p (rules p l) (x .phy) (x .now) (not (isDisabled (phyAt p (x .phy))))) left (λ pass e. nameless-rests left refl refl refl (omega arith))
     where
       left : Done
       left = told (withPhy p (x .phy) idlePhy (x .now)) Taken 32 (x .phy) (onPhy l p (x .phy)) blank unchanged
 
   disable-turns : (x : Confirmed) → Turned (disableCall l p x)
   unfolding disableOf
-  disable-turns x = by-causes Turned (refusedBy p) stopped (phyCauses p (rules p l) (x .phy) (x .now) (isDisabled f)) (disabledDone p f r x) (λ off e. by (numbered (x .phy) (x .now) (isDisabled f) off))
+  disable-turns x = by-causes Turned (refusedBy p) stopped (phyCauses p (rules p l) (x .phy) (x .now) (isDisabled f)) (disabledDone p f r x) (λ pass e. by (numbered (x .phy) (x .now) (isDisabled f) pass))
     where
       f : Phy
       f = phyAt p (x .phy)

@@ -110,7 +110,7 @@ one-of-key p l x kept i j m n a b = elim (decLt i j) [
     shared r q c d = (c .1 .0 ∙ sym (d .1 .0), (c .1 .1 .0 ∙ sym (d .1 .1 .0), c .1 .1 .1 ∙ sym (d .1 .1 .1)))
 
 -- a record that stays has a key exactly if it had it
-had : (x : Key) {a b : Request} → Stays a b → HasKey b x → HasKey a x
+pub had : (x : Key) {a b : Request} → Stays a b → HasKey b x → HasKey a x
 had x {a} {b} s k = by (eqb (a .stage) 0) refl
   where
     by : (t : Bool) → eqb (a .stage) 0 ≡ t → HasKey a x

@@ -25,12 +25,20 @@ use Rattle.port_once.proofs.Runs.{comes-when, Tells, tells-anew, tells-
 
 -- ---- from a setup on
 
-begins-so : (r : Run) → Tells (entriesOf (setup (r .count) (r .loss)) (r .lent) ++ []) (leave (setup (r .count) (r .loss)) (r .lent))
-begins-so r =
-    let first = begins (r .count) (r .loss) (r .lent) (r .sized) (r .range) in
-    subst (λ (es : List Entry). Tells (es ++ []) (leave (setup (r .count) (r .loss)) (r .lent))) (sym (first .1 .1))
-    (tells-anew (setup (r .count) (r .loss)) (begun (r .count) (r .loss) .answer) [] (leave (setup (r .count) (r .loss)) (r .lent)) refl (first .1 .0)
-    (λ i h. ap (λ (s : State). getD (s .list) i blank) (first .0) ∙ cleared-at (r .lent .list) (begun (r .count) (r .loss)) (r .sized) refl i h))
+-- behind the first setup, of whatever list
+module _ (r : Run) where
+  abbrev pub first : Call
+  first = setup (r .count) (r .loss)
+
+  pub begins-zeros : (i : ℕ) → i < 32 → getD (leave first (r .lent) .list) i blank ≡ blank
+  begins-zeros i h =
+      ap (λ (s : State). getD (s .list) i blank) (begins (r .count) (r .loss) (r .lent) (r .sized) (r .range) .0)
+      ∙ cleared-at (r .lent .list) (begun (r .count) (r .loss)) (r .sized) refl i h
+
+  pub begins-so : Tells (entriesOf first (r .lent) ++ []) (leave first (r .lent))
+  begins-so =
+      let known = begins (r .count) (r .loss) (r .lent) (r .sized) (r .range) .1 in
+      subst (λ (es : List Entry). Tells (es ++ []) (leave first (r .lent))) (sym (known .1)) (tells-anew first (begun (r .count) (r .loss) .answer) [] (leave first (r .lent)) refl (known .0) begins-zeros)
 
 -- ---- what a history that tells the state says
 
@@ -67,7 +75,7 @@ module _ (h : List Entry) (s : State) (t : Tells h s) (x : Key) where
 
 module _ (keeps : KeepsRules) (r : Run) where
   pub tells : Tells (past r) (now r)
-  tells = tells-run keeps (r .calls) (leave (setup (r .count) (r .loss)) (r .lent)) (entriesOf (setup (r .count) (r .loss)) (r .lent) ++ []) (begins-so r)
+  tells = tells-run keeps (r .calls) (leave (first r) (r .lent)) (entriesOf (first r) (r .lent) ++ []) (begins-so r)
 
   module _ (x : Key) where
     pub alternates : standing x (past r) ≡ wrong → ⊥

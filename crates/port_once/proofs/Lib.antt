@@ -6,3 +6,5 @@ pub mod Histories
 pub mod Runs
 pub mod Leaving
 pub mod Ends
+pub mod Cancels
+pub mod Withdrawn

@@ -53,7 +53,7 @@ module _ (l : List Request) (d : Done) (len : length l ≡ 32) where
         left-at l d (d .answer .slot) len h
         ∙ (λ k. cond (some k) blank (cond (eq-eqb (d .answer .slot) (d .answer .slot) refl k) (d .entry) (spread (d .loss) (getD l (d .answer .slot) blank))))
 
-    elsewhere : (i : ℕ) → i < 32 → (i ≡ d .answer .slot → ⊥) → getD (leftOf l d) i blank ≡ spread (d .loss) (getD l i blank)
+    pub elsewhere : (i : ℕ) → i < 32 → (i ≡ d .answer .slot → ⊥) → getD (leftOf l d) i blank ≡ spread (d .loss) (getD l i blank)
     elsewhere i h other =
         left-at l d i len h
         ∙ (λ k. cond (some k) blank (cond (ne-eqb i (d .answer .slot) other k) (d .entry) (spread (d .loss) (getD l i blank))))

@@ -10,13 +10,14 @@ use lib.Dec.{eqb}
 use lib.ListN.{length, getD}
 use borrow.Author.Tests.{eqb-true, eqb-false}
 use Rattle.laws.proofs.Bools.{never}
-use Rattle.open_frame.specs.declared.Head.{Head}
+use Rattle.refusals.specs.declared.Refusal.{Refusal}
 use Rattle.port_parts.specs.Parts.{blank}
 use Rattle.port_parts.specs.declared.Request.{Request}
 use Rattle.port_rules.specs.Kept.{Free}
 use Rattle.port_core.specs.declared.Answer.{Answer}
 use Rattle.port_core.specs.declared.Key.{Key}
 use Rattle.port_core.specs.declared.Word.{Word}
+use Rattle.port_core.specs.declared.Word.the-variants.{Taken, Refused}
 use Rattle.port.specs.Calls.{leftOf, on32}
 use Rattle.port.specs.Grounds.{HasKey, Absent}
 use Rattle.port.specs.History.{State, Call, doneOf, steppedBy, isRefused, isLast, leave, run, Entry, entriesOf, history}
@@ -57,15 +58,15 @@ module _ (c : Call) (s : State) (ok : Lawful s) where
   same-word = ap (λ (r : Stepped). r .answer .word) (answers c s (ok .list))
 
   -- a word on a request is no setup's
-  no-setup : (f : Word → Bool) → (isSetup c ≡ true → f (doneOf c s .answer .word) ≡ false) → f said ≡ true → isSetup c ≡ false
-  no-setup f silent e = by (isSetup c) refl
+  pub no-setup : (f : Word → Bool) → f Taken ≡ false → ((k : Refusal) → f (Refused k) ≡ false) → f said ≡ true → isSetup c ≡ false
+  no-setup f begins refuses e = by (isSetup c) refl
     where
       by : (t : Bool) → isSetup c ≡ t → t ≡ false
-      by true is = absurd (never (sym (ap f same-word ∙ silent is) ∙ e))
+      by true is = absurd (never (sym (ap f same-word ∙ setup-says c s f begins refuses is) ∙ e))
       by false is = refl
 
   pub comes-when : isSubmitted said ≡ true → Comes (s .list) (leave c s .list) (steppedBy c s .answer)
-  comes-when e = by (turns-of c s ok (no-setup isSubmitted (λ is. setup-says c s is .0) e) (words said .1 e))
+  comes-when e = by (turns-of c s ok (no-setup isSubmitted refl (λ k. refl) e) (words said .1 e))
     where
       by : Turns (s .list) (leave c s .list) (steppedBy c s .answer) → Comes (s .list) (leave c s .list) (steppedBy c s .answer)
       by (inl come) = come
@@ -73,7 +74,7 @@ module _ (c : Call) (s : State) (ok : Lawful s) where
       by (inr (inr rest)) = absurd (never (sym (rest .submitted) ∙ e))
 
   pub leaves-when : isLast said ≡ true → Leaves (s .list) (leave c s .list) (steppedBy c s .answer)
-  leaves-when e = by (turns-of c s ok (no-setup isLast (λ is. setup-says c s is .1) e) (words said .0 e .1))
+  leaves-when e = by (turns-of c s ok (no-setup isLast refl (λ k. refl) e) (words said .0 e .1))
     where
       by : Turns (s .list) (leave c s .list) (steppedBy c s .answer) → Leaves (s .list) (leave c s .list) (steppedBy c s .answer)
       by (inl come) = absurd (never (sym (words said .0 e .0) ∙ come .word))

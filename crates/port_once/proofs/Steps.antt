@@ -27,13 +27,13 @@ use Rattle.port_core.specs.Finds.{roomOf, keyOf}
 use Rattle.port_core.specs.declared.Answer.{Answer}
 use Rattle.port_core.specs.declared.Done.{Done}
 use Rattle.port_core.specs.declared.Word.{Word}
-use Rattle.port_core.specs.declared.Word.the-variants.{Taken, Submitted, Send, Close, StopArb, Retried, Waiting, CancelAcknowledged, NexusLoss, ConnectionLost, Status}
+use Rattle.port_core.specs.declared.Word.the-variants.{Taken, Submitted, Send, Close, StopArb, Retried, Waiting, CancelAcknowledged, NexusLoss, ConnectionLost, Status, Refused}
 use Rattle.port.specs.Calls.{leftOf, steppedOf, on32, Called, onPhy, pickAt}
-use Rattle.port.specs.History.{State, Call, setup, submit, cancel, choose, opened, openFailed, frameStatus, closed, enable, disable, doneOf, shortOf, steppedBy, isRefused, isLast, leave, Entry, entriesOf}
+use Rattle.port.specs.History.{State, Call, setup, submit, cancel, choose, opened, openFailed, frameStatus, closed, enable, disable, doneOf, shortOf, steppedBy, isRefused, leave, Entry, entriesOf}
 use Rattle.port.specs.declared.Stepped.{Stepped}
 use Rattle.port.proofs.Begins.{left-length, setup-kept}
 use Rattle.port.proofs.Promised.{refused-leaves}
-use Rattle.port_once.specs.Standing.{isSetup, isSubmitted}
+use Rattle.port_once.specs.Standing.{isSetup}
 use Rattle.port_once.specs.Turns.{Turns, Lawful, KeepsRules}
 use Rattle.port_once.proofs.Records.{cleared-at}
 use Rattle.port_once.proofs.Cores.{turned}
@@ -272,14 +272,12 @@ setup-zeros c s len =
     by-setup (λ (c : Call). isRefused (doneOf c s .answer .word) ≡ false → (i : ℕ) → i < 32 → getD (leftOf (s .list) (doneOf c s)) i blank ≡ blank)
     (λ count loss on. cleared-at (s .list) (doneOf (setup count loss) s) len (setup-clears count loss s on)) c
 
--- a setup's word is on no request
-pub setup-says : (c : Call) (s : State) → isSetup c ≡ true → (isSubmitted (doneOf c s .answer .word) ≡ false) × (isLast (doneOf c s .answer .word) ≡ false)
+-- a setup's word is Taken or a refusal
+pub setup-says : (c : Call) (s : State) (f : Word → Bool) → f Taken ≡ false → ((k : Refusal) → f (Refused k) ≡ false) → isSetup c ≡ true → f (doneOf c s .answer .word) ≡ false
 unfolding doneOf setupOf
-setup-says c s =
-    by-setup (λ (c : Call). (isSubmitted (doneOf c s .answer .word) ≡ false) × (isLast (doneOf c s .answer .word) ≡ false))
-    (λ count loss.
-    by-causes (λ (d : Done). (isSubmitted (d .answer .word) ≡ false) × (isLast (d .answer .word) ≡ false)) (refusedBy noPort) (λ k. (refl, refl)) ((Refusal.Rules when not (inRange count loss)) ∷ []) (begun count loss)
-    (λ _. (refl, refl))) c
+setup-says c s f a b =
+    by-setup (λ (c : Call). f (doneOf c s .answer .word) ≡ false)
+    (λ count loss. by-causes (λ (d : Done). f (d .answer .word) ≡ false) (refusedBy noPort) b ((Refusal.Rules when not (inRange count loss)) ∷ []) (begun count loss) (λ _. a)) c
 
 -- the first setup, in range, is taken, whatever the list held
 pub begins : (count loss : ℕ) (s : State) → length (s .list) ≡ 32 → InRange count loss

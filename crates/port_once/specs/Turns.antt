@@ -73,7 +73,7 @@ pub record Lawful (s : State) : Type 0 where
 abbrev pub KeepsRules : Type 0
 KeepsRules = (c : Call) (s : State) → length (s .list) ≡ 32 → length (s .port .phys) ≡ 8 → Kept (s .port) (s .list) → Kept (leave c s .port) (leave c s .list)
 
--- 01 PORT.11: Submit takes the lowest free slot; a record set free, at setup too, becomes all zeros.
+-- 01 PORT.11
 -- every free record is all zeros
 abbrev pub Zeros : List Request → Type 0
 Zeros l = (i : ℕ) → i < 32 → Free (getD l i blank) → getD l i blank ≡ blank
