@@ -1,0 +1,278 @@
+-- What the history says of a key is what the list holds of it, call by call: Submitted comes where no request has the key, a last word on
+-- the one request that has it, and nothing else changes who is present. The counts follow from the history alone. Assumes nothing.
+use Prim.Native.Nat.{ℕ, _+_, _<_}
+use mathlib.Core.Path.{_≡_, refl, sym, ap, subst, _∙_}
+use mathlib.Core.Bool.{Bool, true, false, cond, _&&_}
+use mathlib.Core.List.{List, [], _∷_, _++_}
+use mathlib.Core.Logic.{_⊎_, inl, inr}
+use native.Mathlib.Omega.{arith}
+use native.Mathlib.Decide.{decLt}
+use lib.Dec.{eqb, ltb}
+use lib.ListN.{getD}
+use borrow.Author.Tests.{eqb-true, eqb-false, eq-eqb, ltb-true}
+use Rattle.laws.specs.Sets.{bit}
+use Rattle.laws.proofs.Bools.{never, and-true, and-false}
+use Rattle.laws.proofs.Tests.{Says, equal, both}
+use Rattle.open_frame.specs.declared.Head.{Head}
+use Rattle.port_parts.specs.Parts.{blank}
+use Rattle.port_parts.specs.declared.Port.{Port}
+use Rattle.port_parts.specs.declared.Request.{Request}
+use Rattle.port_rules.specs.Kept.{Free, Kept, SameKey}
+use Rattle.port_core.specs.declared.Answer.{Answer}
+use Rattle.port_core.specs.declared.Key.{Key}
+use Rattle.port_core.specs.declared.Word.{Word}
+use Rattle.port_core.specs.declared.Word.the-variants.{Taken, Submitted, Nothing, Send, Open, Close, StopArb, Retried, Waiting, CancelAcknowledged, Ended, NexusLoss, ConnectionLost, Status, Refused}
+use Rattle.port.specs.Grounds.{HasKey, Absent}
+use Rattle.port.specs.History.{Call, Entry, isLast, isRefused}
+use Rattle.port_once.specs.Standing.{isSetup, isSubmitted, isOf, accepts, ends, speaks, submits, lastWords, Standing, gone, there, wrong, sameHead, agrees, accepted, ended, spoken, after, standing}
+use Rattle.port_once.specs.Turns.{keyed, Stays, OthersStay, Comes, Leaves, Rests, Turns, Holds}
+
+-- ---- words and keys
+
+-- no word is two of Submitted, a last word and a refusal
+pub words : (w : Word) → (isLast w ≡ true → (isSubmitted w ≡ false) × (isRefused w ≡ false)) × (isSubmitted w ≡ true → isRefused w ≡ false)
+words Taken = (λ e. (refl, refl), λ e. refl)
+words Submitted = (λ e. absurd (never e), λ e. refl)
+words Nothing = (λ e. (refl, refl), λ e. refl)
+words Send = (λ e. (refl, refl), λ e. refl)
+words Open = (λ e. (refl, refl), λ e. refl)
+words Close = (λ e. (refl, refl), λ e. refl)
+words StopArb = (λ e. (refl, refl), λ e. refl)
+words Retried = (λ e. (refl, refl), λ e. refl)
+words Waiting = (λ e. (refl, refl), λ e. refl)
+words CancelAcknowledged = (λ e. (refl, refl), λ e. refl)
+words (Ended why) = (λ e. (refl, refl), λ e. refl)
+words NexusLoss = (λ e. (refl, refl), λ e. refl)
+words ConnectionLost = (λ e. (refl, refl), λ e. refl)
+words (Status byte) = (λ e. (refl, refl), λ e. refl)
+words (Refused k) = (λ e. absurd (never e), λ e. absurd (never e))
+
+last-is-not-first : (w : Word) → isLast w ≡ true → isSubmitted w ≡ false
+last-is-not-first w e = words w .0 e .0
+
+first-is-not-last : (w : Word) → isSubmitted w ≡ true → isLast w ≡ false
+first-is-not-last w e = by (isLast w) refl
+  where
+    by : (t : Bool) → isLast w ≡ t → t ≡ false
+    by true l = absurd (never (sym (last-is-not-first w l) ∙ e))
+    by false l = refl
+
+abbrev pub OfKey : Head → Key → Type 0
+OfKey h x = (h .destination ≡ x .destination) × ((h .protocol ≡ x .protocol) × (h .tag ≡ x .tag))
+
+pub of-says : (h : Head) (x : Key) → Says (isOf h x) (OfKey h x)
+of-says h x = both (equal (h .destination) (x .destination)) (both (equal (h .protocol) (x .protocol)) (equal (h .tag) (x .tag)))
+
+same-head : (h : Head) → sameHead h h ≡ true
+same-head h =
+    and-true (eq-eqb (h .initiator) (h .initiator) refl)
+    (and-true (eq-eqb (h .protocol) (h .protocol) refl)
+    (and-true (eq-eqb (h .features) (h .features) refl)
+    (and-true (eq-eqb (h .rate) (h .rate) refl)
+    (and-true (eq-eqb (h .tag) (h .tag) refl) (and-true (eq-eqb (h .destination) (h .destination) refl) (eq-eqb (h .source) (h .source) refl))))))
+
+-- ---- what an entry does to a standing
+
+module _ (x : Key) (c : Call) (a : Answer) (v : Standing) where
+  abbrev entry : Entry
+  entry = record { call = c; answer = a }
+
+  -- the standing by what the entry is: a setup, a last word on x, Submitted of x, another answer that names x
+  abbrev by-kind : Bool → Bool → Bool → Bool → Standing
+  by-kind s l f n = cond s gone (cond l (ended a v) (cond f (accepted a v) (cond n (spoken a v) v)))
+
+  after-setup : isSetup c ≡ true → after x entry v ≡ gone
+  after-setup s = ap (λ (t : Bool). by-kind t (ends x entry) (accepts x entry) (speaks x entry)) s
+
+  after-last : isSetup c ≡ false → isLast (a .word) ≡ true → isOf (a .frame .head) x ≡ true → after x entry v ≡ ended a v
+  after-last s l k = λ i. by-kind (s i) (l i && k i) (accepts x entry) (speaks x entry)
+
+  after-first : isSetup c ≡ false → isSubmitted (a .word) ≡ true → isOf (a .frame .head) x ≡ true → after x entry v ≡ accepted a v
+  after-first s f k = λ i. by-kind (s i) (first-is-not-last (a .word) f i && isOf (a .frame .head) x) (f i && k i) (speaks x entry)
+
+  -- neither Submitted nor a last word
+  after-word : isSetup c ≡ false → isLast (a .word) ≡ false → isSubmitted (a .word) ≡ false → after x entry v ≡ cond (speaks x entry) (spoken a v) v
+  after-word s l f = λ i. by-kind (s i) (l i && isOf (a .frame .head) x) (f i && isOf (a .frame .head) x) (speaks x entry)
+
+  after-other : isSetup c ≡ false → isOf (a .frame .head) x ≡ false → after x entry v ≡ v
+  after-other s k = λ i. by-kind (s i) (and-false (isLast (a .word)) k i) (and-false (isSubmitted (a .word)) k i) (and-false (ltb (a .slot) 32) k i)
+
+-- ---- the list holds what the history says
+
+-- no two requests share a key
+pub one-of-key : (p : Port) (l : List Request) (x : Key) → Kept p l → (i j : ℕ) → i < 32 → j < 32 → HasKey (getD l i blank) x → HasKey (getD l j blank) x → i ≡ j
+one-of-key p l x kept i j m n a b = elim (decLt i j) [
+  | yes h ↦ absurd (kept .apart i j h n (a .0) (b .0) .keys (shared (getD l i blank) (getD l j blank) a b))
+  | no h ↦ elim (decLt j i) [ yes g ↦ absurd (kept .apart j i g m (b .0) (a .0) .keys (shared (getD l j blank) (getD l i blank) b a)) | no g ↦ omega arith ]
+]
+  where
+    shared : (r q : Request) → HasKey r x → HasKey q x → SameKey (r .head) (q .head)
+    shared r q c d = (c .1 .0 ∙ sym (d .1 .0), (c .1 .1 .0 ∙ sym (d .1 .1 .0), c .1 .1 .1 ∙ sym (d .1 .1 .1)))
+
+-- a record that stays has a key exactly if it had it
+pub had : (x : Key) {a b : Request} → Stays a b → HasKey b x → HasKey a x
+had x {a} {b} s k = by (eqb (a .stage) 0) refl
+  where
+    by : (t : Bool) → eqb (a .stage) 0 ≡ t → HasKey a x
+    by true e = absurd (k .0 (subst (λ (q : Request). Free q) (sym (s .free (eqb-true (a .stage) 0 e))) (eqb-true (a .stage) 0 e)))
+    by false e = let same = s .present (eqb-false (a .stage) 0 e) .1 in (eqb-false (a .stage) 0 e, subst (λ (h : Head). OfKey h x) same (k .1))
+
+has : (x : Key) {a b : Request} → Stays a b → HasKey a x → HasKey b x
+has x s k = let still = s .present (k .0) in (still .0, subst (λ (h : Head). OfKey h x) (sym (still .1)) (k .1))
+
+module _ (p : Port) (l m : List Request) (a : Answer) (kept : Kept p l) (x : Key) where
+  -- a standing that stays, where no request of the key is at the answer's slot before or after
+  still : (v : Standing) → ((i : ℕ) → i < 32 → HasKey (getD l i blank) x ⊎ HasKey (getD m i blank) x → Stays (getD l i blank) (getD m i blank)) → Holds x v l → Holds x v m
+  still gone stay h = λ i below k. h i below (had x (stay i below (inr k)) k)
+  still (there slot head) stay h = let s = stay slot (h .0) (inl (h .1 .0)) in (h .0, (has x s (h .1 .0), s .present (h .1 .0 .0) .1 ∙ h .1 .1))
+  still wrong stay h = h
+
+  -- others stay, so all of another key do
+  aside : OthersStay l m a → (HasKey (getD l (a .slot) blank) x → ⊥) → (HasKey (getD m (a .slot) blank) x → ⊥) → (i : ℕ) → i < 32 → HasKey (getD l i blank) x ⊎ HasKey (getD m i blank) x → Stays (getD l i blank) (getD m i blank)
+  aside others no-before no-after i h k = others i h (λ e. at e k)
+    where
+      at : i ≡ a .slot → HasKey (getD l i blank) x ⊎ HasKey (getD m i blank) x → ⊥
+      at e (inl q) = no-before (subst (λ (n : ℕ). HasKey (getD l n blank) x) e q)
+      at e (inr q) = no-after (subst (λ (n : ℕ). HasKey (getD m n blank) x) e q)
+
+  -- ---- a request comes
+
+  came : Comes l m a → isOf (a .frame .head) x ≡ true → (v : Standing) → Holds x v l → Holds x (accepted a v) m
+  came c k gone h = (c .slot, ((c .present, subst (λ (g : Head). OfKey g x) (sym (c .head)) (of-says (a .frame .head) x .0 k)), c .head))
+  came c k (there slot head) h = let named = of-says (a .frame .head) x .0 k in c .absent slot (h .0) (h .1 .0 .0, (h .1 .0 .1 .0 ∙ sym (named .0), (h .1 .0 .1 .1 .0 ∙ sym (named .1 .0), h .1 .0 .1 .1 .1 ∙ sym (named .1 .1))))
+  came c k wrong h = h
+
+  came-other : Comes l m a → isOf (a .frame .head) x ≡ false → (v : Standing) → Holds x v l → Holds x v m
+  came-other c k v =
+      still v
+      (aside (c .others) (λ q. q .0 (c .free))
+      (λ q. never (sym k ∙ of-says (a .frame .head) x .1 (subst (λ (g : Head). OfKey g x) (c .head) (q .1)))))
+
+  -- ---- a request leaves
+
+  blank-free : Leaves l m a → HasKey (getD m (a .slot) blank) x → ⊥
+  blank-free d q = q .0 (ap (λ (r : Request). r .stage) (d .zeros))
+
+  -- the request that an answer names
+  named-key : (Free (getD l (a .slot) blank) → ⊥) → getD l (a .slot) blank .head ≡ a .frame .head → isOf (a .frame .head) x ≡ true → HasKey (getD l (a .slot) blank) x
+  named-key present head k = (present, subst (λ (g : Head). OfKey g x) (sym head) (of-says (a .frame .head) x .0 k))
+
+  -- is the one that is there, since no two share a key
+  agreed : a .slot < 32 → HasKey (getD l (a .slot) blank) x → getD l (a .slot) blank .head ≡ a .frame .head → (slot : ℕ) (head : Head) → Holds x (there slot head) l → agrees a slot head ≡ true
+  agreed below named is slot head h =
+      let at : slot ≡ a .slot = one-of-key p l x kept slot (a .slot) (h .0) below (h .1 .0) named in
+      let same : head ≡ a .frame .head = sym (h .1 .1) ∙ ap (λ (n : ℕ). getD l n blank .head) at ∙ is in
+      and-true (eq-eqb slot (a .slot) at) (ap (λ (g : Head). sameHead g (a .frame .head)) same ∙ same-head (a .frame .head))
+
+  left : Leaves l m a → isOf (a .frame .head) x ≡ true → (v : Standing) → Holds x v l → Holds x (ended a v) m
+  left d k v h = by v h
+    where
+      leaver : HasKey (getD l (a .slot) blank) x
+      leaver = named-key (d .present) (d .head) k
+
+      -- every other record has another key
+      none-left : Absent m x
+      none-left i below q = by-place (eqb i (a .slot)) refl
+        where
+          by-place : (t : Bool) → eqb i (a .slot) ≡ t → ⊥
+          by-place true e = blank-free d (subst (λ (n : ℕ). HasKey (getD m n blank) x) (eqb-true i (a .slot) e) q)
+          by-place false e =
+              let other = eqb-false i (a .slot) e in
+              other (one-of-key p l x kept i (a .slot) below (d .slot) (had x (d .others i below other) q) leaver)
+
+      by : (v : Standing) → Holds x v l → Holds x (ended a v) m
+      by gone h = h (a .slot) (d .slot) leaver
+      by (there slot head) h = subst (λ (t : Bool). Holds x (cond t gone wrong) m) (sym (agreed (d .slot) leaver (d .head) slot head h)) none-left
+      by wrong h = h
+
+  left-other : Leaves l m a → isOf (a .frame .head) x ≡ false → (v : Standing) → Holds x v l → Holds x v m
+  left-other d k v =
+      still v (aside (d .others) (λ q. never (sym k ∙ of-says (a .frame .head) x .1 (subst (λ (g : Head). OfKey g x) (d .head) (q .1)))) (blank-free d))
+
+  -- ---- none comes and none leaves
+
+  rested : Rests l m a → isOf (a .frame .head) x ≡ true → a .slot < 32 → (v : Standing) → Holds x v l → Holds x (spoken a v) m
+  rested d k below v h = by v h
+    where
+      named : HasKey (getD l (a .slot) blank) x
+      named = named-key (d .named below .0) (d .named below .1) k
+
+      by : (v : Standing) → Holds x v l → Holds x (spoken a v) m
+      by gone h = h (a .slot) below named
+      by (there slot head) h =
+          subst (λ (t : Bool). Holds x (cond t (there slot head) wrong) m) (sym (agreed below named (d .named below .1) slot head h)) (still (there slot head) (λ i b _. d .all i b) h)
+      by wrong h = h
+
+  -- ---- any call that is no setup
+
+  pub holds-on : (c : Call) → isSetup c ≡ false → Turns l m a → (v : Standing) → Holds x v l → Holds x (after x (record { call = c; answer = a }) v) m
+  holds-on c s turns v h = by (isOf (a .frame .head) x) refl turns
+    where
+      to : {w : Standing} → after x (record { call = c; answer = a }) v ≡ w → Holds x w m → Holds x (after x (record { call = c; answer = a }) v) m
+      to e = subst (λ (w : Standing). Holds x w m) (sym e)
+
+      by : (t : Bool) → isOf (a .frame .head) x ≡ t → Turns l m a → Holds x (after x (record { call = c; answer = a }) v) m
+      by true k (inl come) = to (after-first x c a v s (come .word) k) (came come k v h)
+      by true k (inr (inl leave)) = to (after-last x c a v s (leave .word) k) (left leave k v h)
+      by false k (inl come) = to (after-other x c a v s k) (came-other come k v h)
+      by false k (inr (inl leave)) = to (after-other x c a v s k) (left-other leave k v h)
+      by true k (inr (inr rest)) = to (after-word x c a v s (rest .last) (rest .submitted)) (spoke (ltb (a .slot) 32) refl)
+        where
+          spoke : (u : Bool) → ltb (a .slot) 32 ≡ u → Holds x (cond (speaks x (record { call = c; answer = a })) (spoken a v) v) m
+          spoke true b = subst (λ (u : Bool). Holds x (cond u (spoken a v) v) m) (sym (and-true b k)) (rested rest k (ltb-true (a .slot) 32 b) v h)
+          spoke false b = subst (λ (u : Bool). Holds x (cond (u && isOf (a .frame .head) x) (spoken a v) v) m) (sym b) (still v (λ i below _. rest .all i below) h)
+      by false k (inr (inr rest)) = to (after-other x c a v s k) (still v (λ i below _. rest .all i below) h)
+
+-- a setup leaves none
+pub holds-anew : (x : Key) (c : Call) (a : Answer) (v : Standing) (m : List Request) → isSetup c ≡ true → ((i : ℕ) → i < 32 → getD m i blank ≡ blank) → Holds x (after x (record { call = c; answer = a }) v) m
+holds-anew x c a v m s zeros = subst (λ (w : Standing). Holds x w m) (sym (after-setup x c a v s)) (λ i h k. k .0 (ap (λ (r : Request). r .stage) (zeros i h)))
+
+-- ---- the counts
+
+abbrev pub one : Standing → ℕ
+one gone = 0
+one (there slot head) = 1
+one wrong = 0
+
+pub there-not-wrong : {slot : ℕ} {head : Head} → there slot head ≡ wrong → ⊥
+there-not-wrong e = let z : _≡_ {A = ℕ} 0 1 = cc in omega arith
+
+pub gone-not-wrong : gone ≡ wrong → ⊥
+gone-not-wrong e = let z : _≡_ {A = ℕ} 0 1 = cc in omega arith
+
+-- one entry more: whether it is a setup, a last word, Submitted, another answer that names the key
+count-step : (a : Answer) (s l f n : Bool) (v : Standing) (i j : ℕ) → (l ≡ true → f ≡ false) → ((v ≡ wrong → ⊥) → i ≡ j + one v)
+    → (cond s gone (cond l (ended a v) (cond f (accepted a v) (cond n (spoken a v) v))) ≡ wrong → ⊥)
+    → cond s 0 (bit f + i) ≡ cond s 0 (bit l + j) + one (cond s gone (cond l (ended a v) (cond f (accepted a v) (cond n (spoken a v) v))))
+count-step a true l f n v i j apart before fine = refl
+count-step a false true true n v i j apart before fine = absurd (never (sym (apart refl)))
+count-step a false true false n gone i j apart before fine = absurd (fine refl)
+count-step a false true false n (there slot head) i j apart before fine = by (agrees a slot head) fine
+  where
+    by : (t : Bool) → (cond t gone wrong ≡ wrong → ⊥) → 0 + i ≡ (1 + j) + one (cond t gone wrong)
+    by true ok = let were = before there-not-wrong in omega (arith, were)
+    by false ok = absurd (ok refl)
+count-step a false true false n wrong i j apart before fine = absurd (fine refl)
+count-step a false false true n gone i j apart before fine = let were = before gone-not-wrong in omega (arith, were)
+count-step a false false true n (there slot head) i j apart before fine = absurd (fine refl)
+count-step a false false true n wrong i j apart before fine = absurd (fine refl)
+count-step a false false false true gone i j apart before fine = absurd (fine refl)
+count-step a false false false true (there slot head) i j apart before fine = by (agrees a slot head) fine
+  where
+    by : (t : Bool) → (cond t (there slot head) wrong ≡ wrong → ⊥) → 0 + i ≡ (0 + j) + one (cond t (there slot head) wrong)
+    by true ok = let were = before there-not-wrong in omega (arith, were)
+    by false ok = absurd (ok refl)
+count-step a false false false true wrong i j apart before fine = absurd (fine refl)
+count-step a false false false false v i j apart before fine = let were = before fine in omega (arith, were)
+
+apart-words : (x : Key) (e : Entry) → ends x e ≡ true → accepts x e ≡ false
+apart-words x e l = by (isLast (e .answer .word)) refl l
+  where
+    by : (t : Bool) → isLast (e .answer .word) ≡ t → t && isOf (e .answer .frame .head) x ≡ true → accepts x e ≡ false
+    by true last k = ap (λ (u : Bool). u && isOf (e .answer .frame .head) x) (last-is-not-first (e .answer .word) last)
+    by false last k = absurd (never k)
+
+-- submits and last words of a key that alternate differ by one where a request is there, and by none where it is gone
+pub counted : (x : Key) (h : List Entry) → (standing x h ≡ wrong → ⊥) → submits x h ≡ lastWords x h + one (standing x h)
+counted x [] fine = refl
+counted x (e ∷ h) fine = count-step (e .answer) (isSetup (e .call)) (ends x e) (accepts x e) (speaks x e) (standing x h) (submits x h) (lastWords x h) (apart-words x e) (counted x h) fine

@@ -1,0 +1,10 @@
+-- Each accepted submit leaves once, with one last word.
+pub mod Records
+pub mod Cores
+pub mod Steps
+pub mod Histories
+pub mod Runs
+pub mod Leaving
+pub mod Ends
+pub mod Cancels
+pub mod Withdrawn

@@ -1,0 +1,79 @@
+-- Document 01, 'Port': what one call does to the records: a request comes, a request leaves, or none does either. Assumes nothing.
+use Prim.Native.Nat.{ℕ, _<_}
+use mathlib.Core.Path.{_≡_}
+use mathlib.Core.Bool.{true, false}
+use mathlib.Core.List.{List}
+use mathlib.Core.Logic.{_⊎_}
+use lib.ListN.{length, getD}
+use Rattle.open_frame.specs.declared.Head.{Head}
+use Rattle.port_parts.specs.Parts.{blank}
+use Rattle.port_parts.specs.declared.Request.{Request}
+use Rattle.port_rules.specs.Kept.{Free, Kept}
+use Rattle.port_core.specs.declared.Answer.{Answer}
+use Rattle.port_core.specs.declared.Key.{Key}
+use Rattle.port.specs.Grounds.{HasKey, Absent}
+use Rattle.port.specs.History.{State, Call, leave, isLast}
+use Rattle.port_once.specs.Standing.{Standing, gone, there, wrong, isSubmitted}
+
+abbrev pub keyed : Head → Key
+keyed h = record { destination = h .destination; protocol = h .protocol; tag = h .tag }
+
+-- a record that neither comes nor leaves: free it stays as it was, present it stays present with its head
+pub record Stays (a b : Request) : Type 0 where
+  pub free : Free a → b ≡ a
+  pub present : (Free a → ⊥) → (Free b → ⊥) × (b .head ≡ a .head)
+
+-- the list was l and is m, and the answer is a
+module _ (l m : List Request) (a : Answer) where
+  abbrev pub OthersStay : Type 0
+  OthersStay = (i : ℕ) → i < 32 → (i ≡ a .slot → ⊥) → Stays (getD l i blank) (getD m i blank)
+
+  -- 01 PORT.11
+  pub record Comes : Type 0 where
+    pub word : isSubmitted (a .word) ≡ true
+    pub slot : a .slot < 32
+    pub free : Free (getD l (a .slot) blank)
+    pub lowest : (i : ℕ) → i < a .slot → Free (getD l i blank) → ⊥
+    pub absent : Absent l (keyed (a .frame .head))
+    pub present : Free (getD m (a .slot) blank) → ⊥
+    pub head : getD m (a .slot) blank .head ≡ a .frame .head
+    pub others : OthersStay
+
+  pub record Leaves : Type 0 where
+    pub word : isLast (a .word) ≡ true
+    pub slot : a .slot < 32
+    pub present : Free (getD l (a .slot) blank) → ⊥
+    pub head : getD l (a .slot) blank .head ≡ a .frame .head
+    pub zeros : getD m (a .slot) blank ≡ blank
+    pub others : OthersStay
+
+  -- an answer that names a request names one that is there
+  pub record Rests : Type 0 where
+    pub submitted : isSubmitted (a .word) ≡ false
+    pub last : isLast (a .word) ≡ false
+    pub named : a .slot < 32 → (Free (getD l (a .slot) blank) → ⊥) × (getD l (a .slot) blank .head ≡ a .frame .head)
+    pub all : (i : ℕ) → i < 32 → Stays (getD l i blank) (getD m i blank)
+
+  abbrev pub Turns : Type 0
+  Turns = Comes ⊎ (Leaves ⊎ Rests)
+
+-- the list holds what the history says of x
+abbrev pub Holds : Key → Standing → List Request → Type 0
+Holds x gone l = Absent l x
+Holds x (there slot head) l = (slot < 32) × (HasKey (getD l slot blank) x × (getD l slot blank .head ≡ head))
+Holds x wrong l = ⊥
+
+-- a lent state: its lists are as long as their types say, and it keeps the rules
+pub record Lawful (s : State) : Type 0 where
+  pub list : length (s .list) ≡ 32
+  pub phys : length (s .port .phys) ≡ 8
+  pub kept : Kept (s .port) (s .list)
+
+-- every call keeps the rules
+abbrev pub KeepsRules : Type 0
+KeepsRules = (c : Call) (s : State) → length (s .list) ≡ 32 → length (s .port .phys) ≡ 8 → Kept (s .port) (s .list) → Kept (leave c s .port) (leave c s .list)
+
+-- 01 PORT.11
+-- every free record is all zeros
+abbrev pub Zeros : List Request → Type 0
+Zeros l = (i : ℕ) → i < 32 → Free (getD l i blank) → getD l i blank ≡ blank
