@@ -1,0 +1,189 @@
+#include "port_fields.h"
+
+#include "check.h"
+
+#include <stdio.h>
+#include <string.h>
+
+struct field {
+	const char *name;
+	size_t at, width;
+};
+
+#define FIELD(type, member) {#member, offsetof(struct type, member), sizeof(((struct type *)0)->member)}
+
+static const struct field port_fields[] = {FIELD(port, count), FIELD(port, loss), FIELD(port, last)};
+
+static const struct field phy_fields[] = {FIELD(phy, stage), FIELD(phy, slot), FIELD(phy, protocol), FIELD(phy, destination)};
+
+static const struct field request_fields[] = {
+	FIELD(request, stage),
+	FIELD(request, phy),
+	FIELD(request, cancelled),
+	FIELD(request, closed),
+	FIELD(request, pbc),
+	FIELD(request, awt),
+	FIELD(request, head.initiator),
+	FIELD(request, head.protocol),
+	FIELD(request, head.features),
+	FIELD(request, head.rate),
+	FIELD(request, head.tag),
+	FIELD(request, head.destination),
+	FIELD(request, head.source),
+	FIELD(request, submitted),
+	FIELD(request, retry.set),
+	FIELD(request, retry.at),
+	FIELD(request, first.set),
+	FIELD(request, first.at),
+	FIELD(request, loss.set),
+	FIELD(request, loss.at),
+};
+
+static const struct field frame_fields[] = {
+	FIELD(open_frame, head.initiator),
+	FIELD(open_frame, head.protocol),
+	FIELD(open_frame, head.features),
+	FIELD(open_frame, head.rate),
+	FIELD(open_frame, head.tag),
+	FIELD(open_frame, head.destination),
+	FIELD(open_frame, head.source),
+	FIELD(open_frame, pbc),
+	FIELD(open_frame, awt),
+};
+
+static uint64_t get(const void *from, const struct field *field)
+{
+	const unsigned char *at = (const unsigned char *)from + field->at;
+	uint16_t two;
+	uint64_t eight;
+	switch (field->width) {
+	case 1:
+		return *at;
+	case 2:
+		memcpy(&two, at, sizeof two);
+		return two;
+	default:
+		memcpy(&eight, at, sizeof eight);
+		return eight;
+	}
+}
+
+static void put(void *to, const struct field *field, uint64_t value)
+{
+	unsigned char *at = (unsigned char *)to + field->at;
+	uint8_t one = (uint8_t)value;
+	uint16_t two = (uint16_t)value;
+	memcpy(at, field->width == 1 ? (void *)&one : field->width == 2 ? (void *)&two : (void *)&value, field->width);
+}
+
+static bool means_nothing(const void *thing, const struct field *fields, const struct field *field)
+{
+	if (fields == phy_fields) {
+		const struct phy *phy = thing;
+		return phy->stage < 3 && (field->at == offsetof(struct phy, protocol) || field->at == offsetof(struct phy, destination));
+	}
+	if (fields == request_fields) {
+		const struct request *r = thing;
+		return r->stage != 0 && ((field->at == offsetof(struct request, phy) && r->stage != 2) ||
+		                         (field->at == offsetof(struct request, retry.at) && !r->retry.set) ||
+		                         (field->at == offsetof(struct request, first.at) && !r->first.set) ||
+		                         (field->at == offsetof(struct request, loss.at) && !r->loss.set));
+	}
+	return false;
+}
+
+#define COUNT(array) (sizeof(array) / sizeof *(array))
+
+/* ---- Compare */
+
+static void differ(struct difference *d, const char *name, uint64_t expected, uint64_t found)
+{
+	if (expected != found && d->name[0] == '\0') {
+		snprintf(d->name, sizeof d->name, "%s", name);
+		d->expected = expected;
+		d->found = found;
+	}
+}
+
+static void compare(struct difference *d, const char *what, const void *expected, const void *found, const struct field *fields, size_t count, bool odd)
+{
+	char name[48];
+	for (size_t i = 0; i < count; i++) {
+		uint64_t a = get(expected, &fields[i]), b = get(found, &fields[i]);
+		if (a != b && !(odd && means_nothing(expected, fields, &fields[i]))) {
+			snprintf(name, sizeof name, "%s %s", what, fields[i].name);
+			differ(d, name, a, b);
+		}
+	}
+}
+
+void compare_answer(struct difference *d, const struct said *expected, const struct reply *found)
+{
+	differ(d, "word", expected->word, found->word);
+	differ(d, "detail", expected->detail, found->detail);
+	differ(d, "slot", expected->slot, found->slot);
+	differ(d, "phy", expected->phy, found->phy);
+	compare(d, "frame", &expected->frame, &found->frame, frame_fields, COUNT(frame_fields), false);
+}
+
+void compare_port(struct difference *d, const struct port *expected, const struct port *found, bool odd)
+{
+	char what[16];
+	compare(d, "port", expected, found, port_fields, COUNT(port_fields), odd);
+	for (unsigned k = 0; k < PHYS; k++) {
+		snprintf(what, sizeof what, "phy %u", k);
+		compare(d, what, &expected->phys[k], &found->phys[k], phy_fields, COUNT(phy_fields), odd);
+	}
+}
+
+void compare_list(struct difference *d, const struct request *expected, const struct request *found, size_t length, bool odd)
+{
+	char what[32];
+	for (size_t i = 0; i < length; i++) {
+		if (memcmp(&expected[i], &found[i], sizeof *expected) != 0) {
+			snprintf(what, sizeof what, "record %zu", i);
+			compare(d, what, &expected[i], &found[i], request_fields, COUNT(request_fields), odd);
+		}
+	}
+}
+
+/* ---- Change */
+
+static uint64_t another(uint64_t old, const void *brother, const struct field *field)
+{
+	switch (noise_below(7)) {
+	case 0:
+		return old + 1;
+	case 1:
+		return old - 1;
+	case 2:
+		return noise_below(8);
+	case 3:
+		return noise_below(40);
+	case 4:
+		return noise();
+	default:
+		return get(brother, field);
+	}
+}
+
+static void change_field(void *thing, const void *brother, const struct field *fields, size_t count)
+{
+	const struct field *field = &fields[noise_below(count)];
+	put(thing, field, another(get(thing, field), brother, field));
+}
+
+void change_port(struct port *port)
+{
+	change_field(port, port, port_fields, COUNT(port_fields));
+}
+
+void change_phy(struct phy *phy, const struct phy *brother)
+{
+	change_field(phy, brother, phy_fields, COUNT(phy_fields));
+}
+
+void change_request(struct request *request, const struct request *brother)
+{
+	change_field(request, brother, request_fields, COUNT(request_fields));
+}

@@ -1,0 +1,27 @@
+/* The port's states and answers field by field: to compare two, and to change one. Bytes between members don't count. */
+#ifndef SONERWAL_TESTS_PORT_FIELDS_H
+#define SONERWAL_TESTS_PORT_FIELDS_H
+
+#include "port_model.h"
+
+/* Where two differ first; the name is empty if they don't. */
+struct difference {
+	char name[48];
+	uint64_t expected, found;
+};
+
+void compare_answer(struct difference *d, const struct said *expected, const struct reply *found);
+
+/*
+ * A lent state that keeps the rules can hold numbers that mean nothing: where a phy was connected that isn't, the phy of a request that
+ * waits, a time that has not come. Document 01 does not say what becomes of them; they don't count if the state is odd.
+ */
+void compare_port(struct difference *d, const struct port *expected, const struct port *found, bool odd);
+void compare_list(struct difference *d, const struct request *expected, const struct request *found, size_t length, bool odd);
+
+/* Give one field another value, often that of the same field of a brother. */
+void change_port(struct port *port);
+void change_phy(struct phy *phy, const struct phy *brother);
+void change_request(struct request *request, const struct request *brother);
+
+#endif
