@@ -37,7 +37,7 @@ use Rattle.port.proofs.Promised.{refused-leaves}
 use Rattle.port.proofs.Refusals.{refused-exactly}
 use Rattle.port.proofs.Begins.{setup-kept}
 use Rattle.port_kept.specs.Ranged.{Ranged}
-use Rattle.port_kept.proofs.Leaves.{leaves-so}
+use Rattle.port_kept.proofs.Leaves.{taken-so, refused-so}
 use Rattle.port_kept.proofs.Runs.{kept-sound, kept-since, run-length, never-three-since}
 
 -- 01 PORT.12 01 PORT.13 01 PORT.14 01 PORT.15
@@ -60,6 +60,8 @@ pub record Ports : Type 1 where
   pub never-three : (count loss : ℕ) (s : State) → isRefused (steppedBy (setup count loss) s .answer .word) ≡ false → (cs : List Call) (c : Call) → Ranged c → steppedBy c (run (setup count loss ∷ cs) s) .answer .word ≡ Refused Refusal.Rules → ⊥
   -- what a call that is taken promises of the port and of the list is what these say that it leaves
   pub promised : (c : Call) (s : State) (r : Stepped) (after : List Request) → Called (s .list) (doneOf c s) (shortOf c s) r after → isRefused (r .answer .word) ≡ false → leave c s ≡ record { port = r .port; list = after }
+  -- 01 REFUSAL.12
+  pub refused : (c : Call) (s : State) (k : Refusal) (r : Stepped) (after : List Request) → Called (s .list) (doneOf c s) (shortOf c s) r after → r .answer .word ≡ Refused k → (r .port ≡ shortOf c s .port) × (after ≡ s .list)
   -- 01 REFUSAL.4 01 REFUSAL.5 01 REFUSAL.9 01 REFUSAL.10 01 REFUSAL.14
   pub refuses : (c : Call) (s : State) (k : Refusal) → (steppedBy c s .answer .word ≡ Refused k) ↔ First (groundsOf c s) k
   pub leaves : (l : List Request) (p : Port) (k : Refusal) → leftOf l (refusedBy p k) ≡ l
@@ -75,7 +77,8 @@ ports = record {
   keeps-all = kept-since;
   as-long = run-length;
   never-three = never-three-since;
-  promised = leaves-so;
+  promised = taken-so;
+  refused = refused-so;
   refuses = refused-exactly;
   leaves = refused-leaves;
 }

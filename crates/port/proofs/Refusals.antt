@@ -181,7 +181,7 @@ decides (disable x) s = cons (sized s) (phy-decides s (x .phy) (x .now) (equal (
 -- ---- the answer is the first cause's refusal
 
 -- what a call leaves where it is not refused
-unfoldable takenOf : Call → State → Done
+unfoldable pub takenOf : Call → State → Done
 takenOf (setup count loss) s = bare (fresh count loss) Taken true
 takenOf (submit x) s =
     told (later (s .port) (x .now)) Submitted (roomOf (s .list) (x .head) .free) 8 (submitted (roomOf (s .list) (x .head)) x) (submitted (roomOf (s .list) (x .head)) x) unchanged

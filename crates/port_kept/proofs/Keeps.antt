@@ -1,20 +1,21 @@
 -- Each call leaves a state that keeps the rules: where it is refused all is as it was, and else its tests say what its core needs to
 -- change one phy, one record and a timer as the rules ask. Assumes nothing.
 use Prim.Native.Nat.{ℕ, _≤_, _<_}
-use mathlib.Core.Path.{_≡_, refl, sym, _∙_}
+use mathlib.Core.Path.{_≡_, sym, _∙_}
 use mathlib.Core.Bool.{Bool, true, false, not}
-use mathlib.Core.List.{List, [], _∷_}
+use mathlib.Core.List.{List}
 use native.Mathlib.Omega.{arith}
 use lib.Dec.{eqb, leb, ltb}
-use lib.ListN.{length, getD, length-set, length-replicate}
+use lib.ListN.{length, getD, set, length-set, length-replicate}
 use borrow.Author.Tests.{eqb-true, eqb-false, ltb-true, ltb-false, leb-false, not-true, not-false}
 use Rattle.laws.proofs.Bools.{never, nor, and-left, by-test}
 use Rattle.laws.proofs.Finds.{Found, none, at}
-use Rattle.refusals.specs.Causes.{_when_, refuse, Decides, cons}
-use Rattle.refusals.specs.declared.Refusal.{Refusal}
+use Rattle.refusals.specs.Causes.{Decides, cons}
+use Rattle.refusals.proofs.Causes.{NoneGiven}
 use Rattle.open_frame.specs.Open.{headListed}
 use Rattle.port_parts.specs.Parts.{off, blank, isFree, isWaiting, isOpening, isDisabled}
 use Rattle.port_parts.specs.Reasons.{reasonOf}
+use Rattle.port_parts.specs.declared.Phy.{Phy}
 use Rattle.port_parts.specs.declared.Pick.{Pick}
 use Rattle.port_parts.specs.declared.Port.{Port}
 use Rattle.port_parts.specs.declared.Request.{Request}
@@ -22,19 +23,17 @@ use Rattle.port_parts.proofs.Choices.{choose-right}
 use Rattle.port_rules.specs.Rules.{inRange, rules, hasFrameOut}
 use Rattle.port_rules.specs.Kept.{Free, Kept}
 use Rattle.port_rules.proofs.Facts.{range-says}
-use Rattle.port_core.specs.Answers.{refusedBy, told, later, withPhy, fresh, noPort, idlePhy, unchanged}
-use Rattle.port_core.specs.Calls.{phyAt, isCancelled, isJoined, bare, submitted, cancelled, chosen, connected, failed, framed, closedDone, disabledDone, submitCauses, cancelCauses, chooseCauses, phyCauses, failedCauses, setupOf, submitOf, cancelOf, chooseOf, openedOf, openFailedOf, frameStatusOf, closedOf, enableOf, disableOf}
+use Rattle.port_core.specs.Calls.{phyAt, isCancelled, isJoined, cancelled, chosen, phyCauses}
 use Rattle.port_core.specs.Finds.{roomOf, hasKey, keyOf}
 use Rattle.port_core.specs.declared.Done.{Done}
 use Rattle.port_core.specs.declared.Key.{Key}
 use Rattle.port_core.specs.declared.Wish.{Wish}
-use Rattle.port_core.specs.declared.Word.the-variants.{Taken, Submitted}
-use Rattle.port.specs.Calls.{leftOf, onPhy, pickAt}
-use Rattle.port.specs.History.{State, Call, setup, submit, cancel, choose, opened, openFailed, frameStatus, closed, enable, disable, doneOf, steppedBy, isRefused, leave}
+use Rattle.port.specs.Calls.{pickAt}
+use Rattle.port.specs.History.{State, Call, setup, submit, cancel, choose, opened, openFailed, frameStatus, closed, enable, disable, steppedBy, isRefused, leave}
 use Rattle.port.specs.Grounds as grounds
 use Rattle.port.specs.Grounds.{groundsOf}
 use Rattle.port.proofs.Begins.{setup-kept}
-use Rattle.port.proofs.Refusals.{lowest-free, key-found, causesOf, decides}
+use Rattle.port.proofs.Refusals.{lowest-free, key-found, causesOf, decides, takenOf}
 use Rattle.port_kept.proofs.Cancels.{cancel-keeps}
 use Rattle.port_kept.proofs.Chooses.{choose-keeps}
 use Rattle.port_kept.proofs.Leaves.{by-call}
@@ -76,6 +75,9 @@ chosen-eight p r b now eight =
 
 -- ---- the calls
 
+is-32 : (l : List Request) → not (eqb (length l) 32) ≡ false → length l ≡ 32
+is-32 l e = eqb-true (length l) 32 (not-false (eqb (length l) 32) e)
+
 -- a state that the next call takes: eight phys, which its type says, and the rules
 pub record Sound (s : State) : Type 0 where
   pub eight : length (s .port .phys) ≡ 8
@@ -83,10 +85,10 @@ pub record Sound (s : State) : Type 0 where
 
 -- an accepted setup leaves one, whatever it was lent
 pub setup-sound : (count loss : ℕ) (s : State) → (isRefused (steppedBy (setup count loss) s .answer .word) ≡ true → Sound s) → Sound (leave (setup count loss) s)
-unfolding doneOf setupOf
+unfolding causesOf takenOf
 setup-sound count loss s stays =
-    by-call Sound (setup count loss) s stays noPort ((Refusal.Rules when not (inRange count loss)) ∷ []) (bare (fresh count loss) Taken true) refl
-    (λ size none. record { eight = length-replicate 8 off; kept = setup-kept count loss (s .list) size (range-says count loss .0 (not-false (inRange count loss) (none .0))) })
+    by-call (setup count loss) s Sound stays
+    (λ passed. record { eight = length-replicate 8 off; kept = setup-kept count loss (s .list) (is-32 (s .list) (passed .0)) (range-says count loss .0 (not-false (inRange count loss) (passed .1 .0))) })
 
 module _ (s : State) (was : Sound s) where
   abbrev p : Port
@@ -95,32 +97,33 @@ module _ (s : State) (was : Sound s) where
   abbrev l : List Request
   l = s .list
 
-  -- a phy's call: the causes that come last, and what its core leaves
-  by-phy : (c : Call) (k now : ℕ) (unfit : Bool) (d : Done) → doneOf c s ≡ refuse (refusedBy p) (phyCauses p (rules p l) k now unfit) d → length (d .port .phys) ≡ 8
-      → (length l ≡ 32 → k < p .count → p .last ≤ now → unfit ≡ false → Kept (d .port) (leftOf l d)) → Sound (leave c s)
-  by-phy c k now unfit d same eight goes =
-      by-call Sound c s (λ e. was) p (phyCauses p (rules p l) k now unfit) d same
-      (λ size none. record { eight = eight; kept = goes size (ltb-true k (p .count) (not-false (ltb k (p .count)) (none .1 .0))) (ltb-false now (p .last) (none .1 .1 .0)) (none .1 .1 .1 .0) })
+  -- what a phy's call that is taken found: the phy is one of the port's, the time has come, and the call fits
+  phy-ok : (k now : ℕ) (unfit : Bool) → NoneGiven (phyCauses p (rules p l) k now unfit) → (k < p .count) × ((p .last ≤ now) × (unfit ≡ false))
+  phy-ok k now unfit passed = (ltb-true k (p .count) (not-false (ltb k (p .count)) (passed .1 .0)), (ltb-false now (p .last) (passed .1 .1 .0), passed .1 .1 .1 .0))
+
+  in-stage : (k n : ℕ) → not (eqb (phyAt p k .stage) n) ≡ false → phyAt p k .stage ≡ n
+  in-stage k n fit = eqb-true (phyAt p k .stage) n (not-false (eqb (phyAt p k .stage) n) fit)
+
+  eight-set : (k : ℕ) (g : Phy) → length (set (p .phys) k g) ≡ 8
+  eight-set k g = length-set (p .phys) k g ∙ was .eight
 
   pub keeps : (c : Call) → Sound (leave c s)
-  unfolding doneOf submitOf cancelOf chooseOf openedOf openFailedOf frameStatusOf closedOf enableOf disableOf
+  unfolding causesOf takenOf
   keeps (setup count loss) = setup-sound count loss s (λ e. was)
   keeps (submit x) =
-      by-call Sound (submit x) s (λ e. was) p (submitCauses p (rules p l) (roomOf l (x .head)) x)
-      (told (later p (x .now)) Submitted (roomOf l (x .head) .free) 8 (submitted (roomOf l (x .head)) x) (submitted (roomOf l (x .head)) x) unchanged) refl
-      (λ size none. record {
+      by-call (submit x) s Sound (λ e. was) (λ passed. record {
         eight = was .eight;
         kept =
-            submit-keeps p l size (was .eight) (was .kept) x (ltb-false (x .now) (p .last) (none .1 .1 .0)) (not-false (headListed (x .head)) (none .0)) (absent x s (none .1 .1 .1 .0))
+            submit-keeps p l (is-32 l (passed .0)) (was .eight) (was .kept) x (ltb-false (x .now) (p .last) (passed .1 .1 .1 .0)) (not-false (headListed (x .head)) (passed .1 .0)) (absent x s (passed .1 .1 .1 .1 .0))
             (free-there l (roomOf l (x .head) .free) (lowest-free l (x .head)));
       })
   keeps (cancel x) =
-      by-call Sound (cancel x) s (λ e. was) p (cancelCauses p r (rules p l) i x) (cancelled p r i (x .now)) refl
-      (λ size none.
-      let found : i < 32 = leb-false 32 i (nor (leb 32 i) (isCancelled r) (none .1 .1 .1 .0) .0) in
+      by-call (cancel x) s Sound (λ e. was)
+      (λ passed.
+      let found : i < 32 = leb-false 32 i (nor (leb 32 i) (isCancelled r) (passed .1 .1 .1 .1 .0) .0) in
       record {
         eight = cancelled-eight p r i (x .now) (was .eight);
-        kept = cancel-keeps p l size (was .eight) (was .kept) i (x .now) found (ltb-false (x .now) (p .last) (none .1 .1 .0)) (key-there l (x .key) i (key-found l (x .key)) found);
+        kept = cancel-keeps p l (is-32 l (passed .0)) (was .eight) (was .kept) i (x .now) found (ltb-false (x .now) (p .last) (passed .1 .1 .1 .0)) (key-there l (x .key) i (key-found l (x .key)) found);
       })
     where
       i : ℕ
@@ -129,34 +132,34 @@ module _ (s : State) (was : Sound s) where
       r : Request
       r = getD l i blank
   keeps (choose x) =
-      by-call Sound (choose x) s (λ e. was) p (chooseCauses p (rules p l) (x .now)) (chosen p (getD l (b .slot) blank) b (x .now)) refl
-      (λ size none. record {
+      by-call (choose x) s Sound (λ e. was) (λ passed. record {
         eight = chosen-eight p (getD l (b .slot) blank) b (x .now) (was .eight);
-        kept = choose-keeps p l size (was .eight) (was .kept) (x .now) (ltb-false (x .now) (p .last) (none .1 .0)) b (choose-right (record { phys = p .phys; now = x .now }) l (was .eight));
+        kept = choose-keeps p l (is-32 l (passed .0)) (was .eight) (was .kept) (x .now) (ltb-false (x .now) (p .last) (passed .1 .1 .0)) b (choose-right (record { phys = p .phys; now = x .now }) l (was .eight));
       })
     where
       b : Pick
       b = pickAt l p (x .now)
   keeps (opened x) =
-      by-phy (opened x) (x .phy) (x .now) (not (isOpening (phyAt p (x .phy)))) (connected p (phyAt p (x .phy)) (onPhy l p (x .phy)) x) refl (length-set (p .phys) _ _ ∙ was .eight)
-      (λ size low on fit. opened-keeps p l size (was .eight) (was .kept) (x .phy) (x .now) low on (eqb-true (phyAt p (x .phy) .stage) 2 (not-false (isOpening (phyAt p (x .phy))) fit)))
+      by-call (opened x) s Sound (λ e. was) (λ passed.
+      let ok = phy-ok (x .phy) (x .now) (not (isOpening (phyAt p (x .phy)))) (passed .1) in
+      record { eight = eight-set (x .phy) _; kept = opened-keeps p l (is-32 l (passed .0)) (was .eight) (was .kept) (x .phy) (x .now) (ok .0) (ok .1 .0) (in-stage (x .phy) 2 (ok .1 .1)) })
   keeps (openFailed x) =
-      by-call Sound (openFailed x) s (λ e. was) p (failedCauses p (rules p l) x (not (isOpening (phyAt p (x .phy))))) (failed p (phyAt p (x .phy)) (onPhy l p (x .phy)) (reasonOf (x .why)) (x .phy) (x .now)) refl
-      (λ size none. record {
-        eight = length-set (p .phys) _ _ ∙ was .eight;
-        kept =
-            failed-keeps p l size (was .eight) (was .kept) (x .phy) (x .now) (ltb-true (x .phy) (p .count) (not-false (ltb (x .phy) (p .count)) (none .1 .1 .0))) (ltb-false (x .now) (p .last) (none .1 .1 .1 .0))
-            (eqb-true (phyAt p (x .phy) .stage) 2 (not-false (isOpening (phyAt p (x .phy))) (none .1 .1 .1 .1 .0))) (reasonOf (x .why));
-      })
+      by-call (openFailed x) s Sound (λ e. was) (λ passed.
+      let ok = phy-ok (x .phy) (x .now) (not (isOpening (phyAt p (x .phy)))) (passed .1 .1) in
+      record { eight = eight-set (x .phy) _; kept = failed-keeps p l (is-32 l (passed .0)) (was .eight) (was .kept) (x .phy) (x .now) (ok .0) (ok .1 .0) (in-stage (x .phy) 2 (ok .1 .1)) (reasonOf (x .why)) })
   keeps (frameStatus x) =
-      by-phy (frameStatus x) (x .phy) (x .now) (not (hasFrameOut (phyAt p (x .phy)))) (framed p (phyAt p (x .phy)) (onPhy l p (x .phy)) x) refl (length-set (p .phys) _ _ ∙ was .eight)
-      (λ size low on fit. status-keeps p l size (was .eight) (was .kept) (x .phy) (x .now) low on (x .status))
+      by-call (frameStatus x) s Sound (λ e. was) (λ passed.
+      let ok = phy-ok (x .phy) (x .now) (not (hasFrameOut (phyAt p (x .phy)))) (passed .1) in
+      record { eight = eight-set (x .phy) _; kept = status-keeps p l (is-32 l (passed .0)) (was .eight) (was .kept) (x .phy) (x .now) (ok .0) (ok .1 .0) (x .status) })
   keeps (closed x) =
-      by-phy (closed x) (x .phy) (x .now) (not (isJoined (phyAt p (x .phy)))) (closedDone p (phyAt p (x .phy)) (onPhy l p (x .phy)) x) refl (length-set (p .phys) _ _ ∙ was .eight)
-      (λ size low on fit. closed-keeps p l size (was .eight) (was .kept) (x .phy) (x .now) low on)
+      by-call (closed x) s Sound (λ e. was) (λ passed.
+      let ok = phy-ok (x .phy) (x .now) (not (isJoined (phyAt p (x .phy)))) (passed .1) in
+      record { eight = eight-set (x .phy) _; kept = closed-keeps p l (is-32 l (passed .0)) (was .eight) (was .kept) (x .phy) (x .now) (ok .0) (ok .1 .0) })
   keeps (enable x) =
-      by-phy (enable x) (x .phy) (x .now) (not (isDisabled (phyAt p (x .phy)))) (told (withPhy p (x .phy) idlePhy (x .now)) Taken 32 (x .phy) (onPhy l p (x .phy)) blank unchanged) refl (length-set (p .phys) _ _ ∙ was .eight)
-      (λ size low on fit. enable-keeps p l size (was .eight) (was .kept) (x .phy) (x .now) low on (eqb-true (phyAt p (x .phy) .stage) 0 (not-false (isDisabled (phyAt p (x .phy))) fit)))
+      by-call (enable x) s Sound (λ e. was) (λ passed.
+      let ok = phy-ok (x .phy) (x .now) (not (isDisabled (phyAt p (x .phy)))) (passed .1) in
+      record { eight = eight-set (x .phy) _; kept = enable-keeps p l (is-32 l (passed .0)) (was .eight) (was .kept) (x .phy) (x .now) (ok .0) (ok .1 .0) (in-stage (x .phy) 0 (ok .1 .1)) })
   keeps (disable x) =
-      by-phy (disable x) (x .phy) (x .now) (isDisabled (phyAt p (x .phy))) (disabledDone p (phyAt p (x .phy)) (onPhy l p (x .phy)) x) refl (length-set (p .phys) _ _ ∙ was .eight)
-      (λ size low on fit. disable-keeps p l size (was .eight) (was .kept) (x .phy) (x .now) low on)
+      by-call (disable x) s Sound (λ e. was) (λ passed.
+      let ok = phy-ok (x .phy) (x .now) (isDisabled (phyAt p (x .phy))) (passed .1) in
+      record { eight = eight-set (x .phy) _; kept = disable-keeps p l (is-32 l (passed .0)) (was .eight) (was .kept) (x .phy) (x .now) (ok .0) (ok .1 .0) })
