@@ -4,6 +4,7 @@ mod Calls
 pub mod Examples
 pub mod Exact
 pub mod Frames
+pub mod Leaving
 pub mod Links
 pub mod LinkRefusals
 mod Grounds
