@@ -105,7 +105,8 @@ static void differ(struct difference *d, const char *name, uint64_t expected, ui
 	}
 }
 
-static void compare(struct difference *d, const char *what, const void *expected, const void *found, const struct field *fields, size_t count, bool odd)
+static void compare(struct difference *d, const char *what, const void *expected, const void *found, const struct field *fields, size_t count,
+                    bool odd)
 {
 	char name[48];
 	for (size_t i = 0; i < count; i++) {

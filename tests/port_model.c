@@ -731,6 +731,18 @@ static struct said close_on(struct model *m, struct item *item, struct line *lin
 	return about(m, CLOSE, item, line);
 }
 
+static struct said take_step(struct model *m, enum step step, struct item *item, struct line *line, uint64_t now)
+{
+	switch (step) {
+	case TO_SEND:
+		return send_on(m, item, line);
+	case TO_OPEN:
+		return open_on(m, item, line, now);
+	default:
+		return close_on(m, item, line);
+	}
+}
+
 static void note_taken(struct model *m, const struct item *item, uint64_t now)
 {
 	if (item->next && item->next->submitted == item->submitted && !item->next->line) {
@@ -752,7 +764,7 @@ static struct said choose(struct model *m, const struct order *o)
 			struct line *line = lowest(m, step, item);
 			if (line) {
 				note_taken(m, item, o->now);
-				return step == TO_SEND ? send_on(m, item, line) : step == TO_OPEN ? open_on(m, item, line, o->now) : close_on(m, item, line);
+				return take_step(m, step, item, line, o->now);
 			}
 		}
 		note(m, PASSED_ON);

@@ -61,12 +61,15 @@ static struct reply call_port(struct world *w, const struct order *o)
 
 static void tell(const struct order *o, const struct world *before, const struct difference *d)
 {
-	if (wrong++ < SHOWN) {
-		printf("FAILED: call %lu, %s of %zu records, phy %u, why %u, key %" PRIX64 "/%u/%u, now %" PRIu64 " (last %" PRIu64 ", loss %u, %u phys%s): %s: document 01 has %" PRIu64 ", the port %" PRIu64 "\n",
-		       calls, call_names[o->call], o->length, o->phy, o->why, o->call == CANCEL ? o->key.destination : o->head.destination,
-		       o->call == CANCEL ? o->key.protocol : o->head.protocol, o->call == CANCEL ? o->key.tag : o->head.tag, o->now,
-		       before->port.last, before->port.loss, before->port.count, before->odd ? ", odd" : "", d->name, d->expected, d->found);
+	const struct port *port = &before->port;
+	struct key key = o->call == CANCEL ? o->key : (struct key){o->head.destination, o->head.protocol, o->head.tag};
+	if (wrong++ >= SHOWN) {
+		return;
 	}
+	printf("FAILED: call %lu, %s, %zu records, time %" PRIu64 ", phy %u, reason %u, key %" PRIX64 "/%u/%u", calls, call_names[o->call], o->length,
+	       o->now, o->phy, o->why, key.destination, key.protocol, key.tag);
+	printf(", on %u phys, loss time %u, last time %" PRIu64 "%s", port->count, port->loss, port->last, before->odd ? ", a lent state" : "");
+	printf(": %s: the model has %" PRIu64 ", the port %" PRIu64 "\n", d->name, d->expected, d->found);
 }
 
 /* The state that the model says comes of `before`; a refusal leaves everything, and setup has no port to give back. */
