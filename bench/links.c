@@ -9,7 +9,8 @@
 #include "compare.h"
 #include "links.h"
 
-enum { RUNS = 16, EVENTS = 256, KINDS = 23 };
+/* The last byte of SOURCE is the frames' rate. */
+enum { RUNS = 16, EVENTS = 256, KINDS = 23, SOURCE = 1033 };
 
 static __typeof__(bench_links) *const sides[SIDES] = {[PLAIN] = plain_links, [OURS] = bench_links};
 
@@ -69,7 +70,7 @@ static uint64_t many(enum side side)
 {
 	uint64_t answers = 0;
 	for (int i = 0; i < RUNS; i++) {
-		answers = answers * 31 + sides[side](events[i], EVENTS, 1000 + (uint64_t)(i % 2), 1000);
+		answers = answers * 31 + sides[side](events[i], EVENTS, SOURCE + (uint64_t)(i % 2), SOURCE);
 	}
 	return answers;
 }

@@ -261,7 +261,7 @@ uint32_t plain_links(const uint8_t *events, size_t count, uint64_t destination, 
 	for (size_t i = 0; i < count; i++) {
 		uint8_t kind = events[i] % KINDS;
 		struct open open = {
-			.initiator = 1, .protocol = 1, .rate = 9, .destination = destination, .source = source, .awt = events[i] / KINDS};
+			.initiator = 1, .protocol = 1, .rate = (uint8_t)source, .destination = destination, .source = source, .awt = events[i] / KINDS};
 		struct answer answer = step(&link, (struct event){kind, details[kind]}, &open);
 		sum = mix(sum, &link, &answer);
 	}

@@ -20,7 +20,7 @@ use Rattle.xl_parts.specs.Parts.{ready}
 use Rattle.xl.specs.Steps.{stepOf}
 use Rattle.bench_links.specs.declared.Tally.{Tally}
 
--- the events in the order of their numbers, the last for every other number
+-- the events in the order of their numbers
 abbrev pub eventList : List Event
 eventList =
     Event.Line Primitive.Open
@@ -45,14 +45,16 @@ eventList =
     ∷ Event.Break BreakEvent.Received
     ∷ Event.Break BreakEvent.Routed
     ∷ Event.Break BreakEvent.Timeout
+    ∷ Event.Disable
     ∷ []
 
+-- below 23; nobody asks for another
 abbrev pub eventOf : ℕ → Event
-eventOf n = getD eventList n Event.Disable
+eventOf n = getD eventList n (Event.Line Primitive.Open)
 
 abbrev pub frameOf : ℕ → ℕ → ℕ → OpenFrame
 frameOf n destination source = record {
-  head = record { initiator = 1; protocol = 1; features = 0; rate = 9; tag = 0; destination = destination; source = source };
+  head = record { initiator = 1; protocol = 1; features = 0; rate = source % 256; tag = 0; destination = destination; source = source };
   pbc = record { 0 = 0 };
   awt = record { 0 = n };
 }
@@ -86,8 +88,12 @@ tallied r sum = record {
   sum = mixOf sum (phaseOf (r .state .phase)) (weightOf (r .actions .first)) (weightOf (r .actions .second)) (weightOf (r .actions .third)) (weightOf (r .actions .fourth));
 }
 
-abbrev pub turnOf : ℕ → ℕ → ℕ → Tally → Tally
-turnOf destination source n t = tallied (stepOf (frameOf (n / 23) destination source) (eventOf (n % 23)) (t .state)) (t .sum)
+abbrev pub turnOf : OpenFrame → Event → Tally → Tally
+turnOf f e t = tallied (stepOf f e (t .state)) (t .sum)
+
+-- the event and the frame of a number
+abbrev pub numbered : ℕ → ℕ → ℕ → Tally → Tally
+numbered destination source n t = turnOf (frameOf (n / 23) destination source) (eventOf (n % 23)) t
 
 abbrev pub begun : Tally
 begun = record { state = ready; sum = 0 }
@@ -95,7 +101,7 @@ begun = record { state = ready; sum = 0 }
 -- after the first k events
 abbrev pub after : ℕ → ℕ → List ℕ → ℕ → Tally
 after destination source events zero = begun
-after destination source events (suc k) = turnOf destination source (getD events k 0) (after destination source events k)
+after destination source events (suc k) = numbered destination source (getD events k 0) (after destination source events k)
 
 abbrev pub afterAll : ℕ → ℕ → List ℕ → Tally
 afterAll destination source events = after destination source events (length events)

@@ -1,7 +1,7 @@
 // What the bench measures: steps of document 01's XL on a run of events that C chooses. C lends no enum, so an event is a number
 // and the state stays within the call.
 ghost use mathlib.Core.Path.{_≡_};
-ghost use Rattle.bench_links.specs.Runs.{eventOf, frameOf, weightOf, phaseOf, mixOf, turnOf, begun, afterAll};
+ghost use Rattle.bench_links.specs.Runs.{eventList, frameOf, weightOf, phaseOf, mixOf, turnOf, begun, afterAll};
 use open_frame::Awt;
 use open_frame::Head;
 use open_frame::OpenFrame;
@@ -27,37 +27,39 @@ struct Tally {
     pub sum: u32,
 }
 
-fn event(n: u8) -> Event
-    ensures { λ r. ⌜ r ≡ eventOf n ⌝ }
+// The events in the order of their numbers.
+fn kinds() -> [Event; 23]
+    ensures { λ r. ⌜ r ≡ eventList ⌝ }
 {
-    match n {
-        0 => Event::Line(Primitive::Open),
-        1 => Event::Line(Primitive::OpenAccept),
-        2 => Event::Line(Primitive::OpenReject(Reject::Retry)),
-        3 => Event::Line(Primitive::Aip(Wait::Partial)),
-        4 => Event::Line(Primitive::Close),
-        5 => Event::Router(Message::SendOpen),
-        6 => Event::Router(Message::SendClose),
-        7 => Event::Router(Message::ArbStatus(Wait::Partial)),
-        8 => Event::Router(Message::OpenAccept),
-        9 => Event::Router(Message::OpenReject(Reject::Retry)),
-        10 => Event::Router(Message::BackoffRetry),
-        11 => Event::Router(Message::BackoffReversePath),
-        12 => Event::Manager(Confirmation::ArbWon),
-        13 => Event::Manager(Confirmation::ArbLost),
-        14 => Event::Manager(Confirmation::ArbReject(Denial::BadLinkRate)),
-        15 => Event::Manager(Confirmation::Arbitrating(Arbitration::BlockedOnPartial)),
-        16 => Event::Own(Notice::PathTimer),
-        17 => Event::Own(Notice::Sent),
-        18 => Event::Own(Notice::Forwarded),
-        19 => Event::Break(BreakEvent::Received),
-        20 => Event::Break(BreakEvent::Routed),
-        21 => Event::Break(BreakEvent::Timeout),
-        _ => Event::Disable,
-    }
+    [
+        Event::Line(Primitive::Open),
+        Event::Line(Primitive::OpenAccept),
+        Event::Line(Primitive::OpenReject(Reject::Retry)),
+        Event::Line(Primitive::Aip(Wait::Partial)),
+        Event::Line(Primitive::Close),
+        Event::Router(Message::SendOpen),
+        Event::Router(Message::SendClose),
+        Event::Router(Message::ArbStatus(Wait::Partial)),
+        Event::Router(Message::OpenAccept),
+        Event::Router(Message::OpenReject(Reject::Retry)),
+        Event::Router(Message::BackoffRetry),
+        Event::Router(Message::BackoffReversePath),
+        Event::Manager(Confirmation::ArbWon),
+        Event::Manager(Confirmation::ArbLost),
+        Event::Manager(Confirmation::ArbReject(Denial::BadLinkRate)),
+        Event::Manager(Confirmation::Arbitrating(Arbitration::BlockedOnPartial)),
+        Event::Own(Notice::PathTimer),
+        Event::Own(Notice::Sent),
+        Event::Own(Notice::Forwarded),
+        Event::Break(BreakEvent::Received),
+        Event::Break(BreakEvent::Routed),
+        Event::Break(BreakEvent::Timeout),
+        Event::Disable,
+    ]
 }
 
-// The frame beside an event: its wait by the event's number, so that priorities differ.
+// The frame beside an event: its wait by the event's number, so that priorities differ, its rate by the source, so that no compiler
+// knows whether the fields are listed.
 fn frame(n: u8, destination: u64, source: u64) -> OpenFrame
     ensures { λ r. ⌜ r ≡ frameOf n destination source ⌝ }
 {
@@ -66,7 +68,7 @@ fn frame(n: u8, destination: u64, source: u64) -> OpenFrame
             initiator: 1,
             protocol: 1,
             features: 0,
-            rate: 9,
+            rate: (source % 256) as u8,
             tag: 0,
             destination,
             source,
@@ -113,11 +115,11 @@ fn mix(sum: u32, p: u32, a: u32, b: u32, c: u32, d: u32) -> u32
     sum % 65536 * 31 + (p % 16 * 4096 + (a % 8 * 512 + (b % 8 * 64 + (c % 8 * 8 + d % 8))))
 }
 
-fn turn(t: Tally, n: u8, destination: u64, source: u64) -> Tally
-    ensures { λ r. ⌜ r ≡ turnOf destination source n t ⌝ }
+fn turn(t: Tally, e: Event, f: OpenFrame) -> Tally
+    ensures { λ r. ⌜ r ≡ turnOf f e t ⌝ }
 {
     let before = t.state;
-    let r = xl::step(before, event(n % 23), frame(n / 23, destination, source));
+    let r = xl::step(before, e, f);
     let state = r.state;
     let actions = r.actions;
     let p = state.phase;
@@ -143,13 +145,16 @@ fn turn(t: Tally, n: u8, destination: u64, source: u64) -> Tally
 pub extern "C" fn bench_links(events: &[u8], destination: u64, source: u64) -> u32
     ensures { λ r. ⌜ r ≡ afterAll destination source (now (events .entry)) .sum ⌝ }
 {
+    let table = kinds();
     let mut t = Tally {
         state: xl_parts::unlinked(),
         sum: 0,
     };
     let mut i = 0;
     while i < events.len() {
-        t = turn(t, events[i], destination, source);
+        let n = events[i];
+        let at = (n % 23) as usize;
+        t = turn(t, table[at], frame(n / 23, destination, source));
         i += 1;
     }
     t.sum

@@ -27,7 +27,7 @@ use Rattle.xl_parts.specs.declared.State.{State}
 use Rattle.xl_parts.specs.declared.Answer.{Answer}
 use Rattle.xl_parts.specs.declared.Stepped.{Stepped}
 use Rattle.xl_parts.specs.Parts.{done}
-use Rattle.xl.specs.Table.{takes}
+use Rattle.xl_rows.specs.Table.{takes}
 use Rattle.xl.specs.Rules.{fielded, isFrame, works, rules}
 use Rattle.xl.specs.Steps.{framed, causes, refused, opened, stepOf, receiveOf}
 use Rattle.xl.specs.Status.{inPhase, waiting, statusOf}

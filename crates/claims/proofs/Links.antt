@@ -1,10 +1,11 @@
 -- Demand 2, the expander link: what each call answers is the row of document 01's table, and over any calls from XL0 the rules are kept,
 -- events are counted, frames pass unchanged, and crossing OPENs back off as document 01 says. Assumes nothing.
-use Prim.Native.Nat.{ℕ, min}
+use Prim.Native.Nat.{ℕ, _≤_, min}
 use mathlib.Core.Bool.{true, false}
 use mathlib.Core.List.{List, [], _++_}
 use mathlib.Core.Path.{_≡_, ap, _∙_}
 use native.Mathlib.Omega.{arith}
+use lib.ListN.{length}
 use denote.Ref.{now}
 use Rattle.open_frame.specs.Open.{openBytes, notCarried, cleared, readOpen, headListed}
 use Rattle.open_frame.specs.Priority.{higherThan}
@@ -14,22 +15,28 @@ use Rattle.open_frame.proofs.Trip.{written-read}
 use Rattle.xl_parts.specs.declared.Phase.{Phase}
 use Rattle.xl_parts.specs.declared.Wait.{Wait}
 use Rattle.xl_parts.specs.declared.Primitive.{Primitive}
+use Rattle.xl_parts.specs.declared.Notice.{Notice}
 use Rattle.xl_parts.specs.declared.Event.{Event}
 use Rattle.xl_parts.specs.declared.Held.{Held}
 use Rattle.xl_parts.specs.declared.Seen.{Seen}
 use Rattle.xl_parts.specs.declared.State.{State}
 use Rattle.xl_parts.specs.declared.Answer.{Answer}
-use Rattle.xl_parts.specs.Parts.{ready, nothing, packed, stay, done}
-use Rattle.xl.specs.Table.{backoff}
+use Rattle.xl_parts.specs.Parts.{ready, nothing, packed, stay, first, entry, entered, forgets, remembering, done}
+use Rattle.xl_rows.specs.Table.{backoff, crossed, takes}
+use Rattle.xl_rows.proofs.Crossing.{unmoved, moved, moved-higher}
 use Rattle.xl.specs.Rules.{rules}
 use Rattle.xl.specs.Steps.{stepOf}
 use Rattle.xl.specs.Status.{statusOf}
-use Rattle.xl.specs.Links.{Call, event, bytes, callOf, run, surprises, brought, frames, names, some, listOf, gapless, In}
-use Rattle.xl.proofs.Walk.{Good}
-use Rattle.xl.proofs.Kept.{kept, ready-keeps}
-use Rattle.xl.proofs.Counts.{run-counts}
-use Rattle.xl.proofs.Shown.{Shows, run-shown, gapless-call}
-use Rattle.xl.proofs.Crossing.{disabled, opens-in-6, unmoved, moved}
+use Rattle.xl_calls.specs.Links.{Call, event, bytes, callOf, run, surprises, brought, frames, names, some, listOf, gapless, In}
+use Rattle.xl_calls.specs.Met.{met, aipMet}
+use Rattle.xl_calls.specs.Path.{releases, leavesTo, oneOf}
+use Rattle.xl_calls.proofs.Walk.{Good}
+use Rattle.xl_calls.proofs.Kept.{kept, ready-keeps}
+use Rattle.xl_calls.proofs.Counts.{run-counts}
+use Rattle.xl_calls.proofs.Shown.{Shows, run-shown, gapless-call, few-done}
+use Rattle.xl_calls.proofs.Crossing.{disabled, opens-in-6, sent-in-5}
+use Rattle.xl_calls.proofs.Seen.{remembers}
+use Rattle.xl_calls.proofs.Released.{released-call}
 use Rattle.claims.specs.Causes.{Bytes}
 use Rattle.claims.proofs.Calls.{Step, Receive, Status}
 
@@ -43,7 +50,7 @@ pub record Crossed (s : State) (f g : OpenFrame) : Type 0 where
 abbrev after : List Call → State
 after cs = run cs ready
 
--- 01 XL.1 01 XL.2 01 XL.3 01 XL.31 01 XL.32 01 PROMISE.3
+-- 01 XL.1 01 XL.2 01 XL.3 01 XL.27 01 XL.31 01 XL.32 01 PROMISE.3
 pub record Links : Type 0 where
   -- each call is the one that document 01's table defines
   pub steps : (c : Step) → c .answer ≡ callOf (event (c .args .1 .0) (c .args .1 .1 .0)) (c .args .0)
@@ -60,10 +67,20 @@ pub record Links : Type 0 where
   pub same-bytes : (b : List ℕ) (f : OpenFrame) → Bytes b → readOpen b ≡ OpenRead.Frame f → openBytes f ≡ cleared notCarried b
   -- actions are in order, with no gap
   pub in-order : (cs : List Call) (c : Call) → gapless (listOf (callOf c (after cs) .actions)) ≡ true
-  -- while no AIP was seen, an OPEN that is not of higher priority does nothing
-  pub stands : (cs : List Call) (f g : OpenFrame) → Crossed (after cs) f g → after cs .memory .aip ≡ Seen.Never → higherThan g f ≡ false → stepOf g (Event.Line Primitive.Open) (after cs) ≡ done (stay [] (after cs))
-  -- once one was seen, every OPEN backs off
-  pub yields : (cs : List Call) (f g : OpenFrame) (w : Wait) → Crossed (after cs) f g → after cs .memory .aip ≡ Seen.Latest w → stepOf g (Event.Line Primitive.Open) (after cs) ≡ done (backoff f g (after cs))
+  -- they are at most four, so that a step leaves none of its row out
+  pub at-most-four : (cs : List Call) (f : OpenFrame) (e : Event) → stepOf f e (after cs) .answer ≡ Answer.Done → length (takes f e (after cs) .actions) ≤ 4
+  -- in XL6 the memory holds the latest AIP that came there since the OPEN was transmitted
+  pub remembers-aip : (cs : List Call) → after cs .phase ≡ Phase.Xl6 → after cs .memory .aip ≡ aipMet (met cs ready [])
+  -- while none came, an OPEN that is not of higher priority does nothing
+  pub stands : (cs : List Call) (f g : OpenFrame) → Crossed (after cs) f g → aipMet (met cs ready []) ≡ Seen.Never → higherThan g f ≡ false → stepOf g (Event.Line Primitive.Open) (after cs) ≡ done (stay [] (after cs))
+  -- one of higher priority backs off
+  pub overtakes : (cs : List Call) (f g : OpenFrame) → Crossed (after cs) f g → higherThan g f ≡ true → stepOf g (Event.Line Primitive.Open) (after cs) ≡ done (backoff f g (after cs))
+  -- once an AIP came, every OPEN backs off
+  pub yields : (cs : List Call) (f g : OpenFrame) (w : Wait) → Crossed (after cs) f g → aipMet (met cs ready []) ≡ Seen.Latest w → stepOf g (Event.Line Primitive.Open) (after cs) ≡ done (backoff f g (after cs))
+  -- an OPEN that XL5 remembered is taken at Sent as XL6 takes one, behind ArbStatus(Waiting On Device), and forgotten
+  pub sends : (cs : List Call) (f g : OpenFrame) → after cs .phase ≡ Phase.Xl5 → after cs .memory .broke ≡ false → after cs .memory .heard ≡ Held.Frame g → stepOf f (Event.Own Notice.Sent) (after cs) ≡ done (first (entry Phase.Xl6) (crossed (after cs .memory .held) g (remembering forgets (entered Phase.Xl6 (after cs)))))
+  -- a call releases a path exactly if it takes the link from a state to one of those that its path is left to
+  pub path-left : (s : State) (c : Call) → releases s (callOf c s .state) ≡ oneOf (callOf c s .state .phase) (leavesTo (s .phase))
   -- Disable gives XL0 with no action and no memory but the count
   pub disables : (s : State) (f : OpenFrame) → rules s ≡ true → stepOf f Event.Disable s ≡ record { answer = Answer.Done; state = record { phase = Phase.Xl0; memory = nothing; count = s .count }; actions = packed [] }
 
@@ -85,7 +102,12 @@ links = record {
   frames-pass = λ cs c. run-shown cs [] ready new c;
   same-bytes = λ b f small e. written-read b f small e;
   in-order = λ cs c. gapless-call (after cs) (kept cs ready ready-keeps) c;
-  stands = λ cs f g x never low. opens-in-6 (after cs) g (kept cs ready ready-keeps) (x .phase) (x .fields) ∙ ap done (unmoved (after cs) f g (x .transmitted) never low);
-  yields = λ cs f g w x seen. opens-in-6 (after cs) g (kept cs ready ready-keeps) (x .phase) (x .fields) ∙ ap done (moved (after cs) f g (x .transmitted) w seen);
+  at-most-four = λ cs f e d. few-done (after cs) (kept cs ready ready-keeps) f e d;
+  remembers-aip = λ cs e. remembers cs e;
+  stands = λ cs f g x never low. opens-in-6 (after cs) g (kept cs ready ready-keeps) (x .phase) (x .fields) ∙ ap done (unmoved (after cs) f g (x .transmitted) (remembers cs (x .phase) ∙ never) low);
+  overtakes = λ cs f g x high. opens-in-6 (after cs) g (kept cs ready ready-keeps) (x .phase) (x .fields) ∙ ap done (moved-higher (after cs) f g (x .transmitted) high);
+  yields = λ cs f g w x seen. opens-in-6 (after cs) g (kept cs ready ready-keeps) (x .phase) (x .fields) ∙ ap done (moved (after cs) f g (x .transmitted) w (remembers cs (x .phase) ∙ seen));
+  sends = λ cs f g phase unbroken heard. sent-in-5 (after cs) f g (kept cs ready ready-keeps) phase unbroken heard;
+  path-left = λ s c. released-call s c;
   disables = λ s f e. disabled s e f;
 }

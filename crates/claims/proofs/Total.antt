@@ -84,6 +84,8 @@ use Rattle.xl_parts.proofs.goes.Kinds as goes-of
 use Rattle.xl_parts.proofs.goes.Reads as goes
 use Rattle.xl_parts.proofs.after.Kinds as after-of
 use Rattle.xl_parts.proofs.after.Reads as after
+use Rattle.xl_rows.proofs.takes.Kinds as takes-of
+use Rattle.xl_rows.proofs.takes.Reads as takes
 use Rattle.xl.proofs.step.Kinds as xl-step-of
 use Rattle.xl.proofs.step.Reads as xl-step
 use Rattle.xl.proofs.receive.Kinds as xl-receive-of
@@ -254,6 +256,7 @@ pub record Total : Type 0 where
   pub stays : Anything 0 stays-of.ps stays.Pre
   pub goes : Anything 0 goes-of.ps goes.Pre
   pub after : Anything 0 after-of.ps after.Pre
+  pub takes : Anything 0 takes-of.ps takes.Pre
   pub xl-step : Anything 0 xl-step-of.ps xl-step.Pre
   pub xl-receive : Anything 1 xl-receive-of.ps xl-receive.Pre
   pub xl-status : Anything 0 xl-status-of.ps xl-status.Pre
@@ -359,6 +362,7 @@ total = record {
   stays = λ κs a. tt;
   goes = λ κs a. tt;
   after = λ κs a. tt;
+  takes = λ κs a. tt;
   xl-step = λ κs a. tt;
   xl-receive = λ κs a. tt;
   xl-status = λ κs a. tt;

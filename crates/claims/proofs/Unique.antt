@@ -91,6 +91,8 @@ use Rattle.xl_parts.proofs.goes.Kinds as goes-of
 use Rattle.xl_parts.proofs.goes.Reads as goes
 use Rattle.xl_parts.proofs.after.Kinds as after-of
 use Rattle.xl_parts.proofs.after.Reads as after
+use Rattle.xl_rows.proofs.takes.Kinds as takes-of
+use Rattle.xl_rows.proofs.takes.Reads as takes
 use Rattle.xl.proofs.step.Kinds as xl-step-of
 use Rattle.xl.proofs.step.Reads as xl-step
 use Rattle.xl.proofs.receive.Kinds as xl-receive-of
@@ -328,6 +330,7 @@ pub record Unique : Type 0 where
   pub stays : One 0 stays-of.ps stays-of.r (none 0 stays-of.ps stays-of.r) stays.Post
   pub goes : One 0 goes-of.ps goes-of.r (none 0 goes-of.ps goes-of.r) goes.Post
   pub after : One 0 after-of.ps after-of.r (none 0 after-of.ps after-of.r) after.Post
+  pub takes : One 0 takes-of.ps takes-of.r (none 0 takes-of.ps takes-of.r) takes.Post
   pub xl-step : One 0 xl-step-of.ps xl-step-of.r (none 0 xl-step-of.ps xl-step-of.r) xl-step.Post
   pub xl-receive : One 1 xl-receive-of.ps xl-receive-of.r (none 1 xl-receive-of.ps xl-receive-of.r) xl-receive.Post
   pub xl-status : One 0 xl-status-of.ps xl-status-of.r (none 0 xl-status-of.ps xl-status-of.r) xl-status.Post
@@ -443,6 +446,7 @@ unique = record {
   stays = λ κs a x y s t p q. (p ∙ sym q, refl);
   goes = λ κs a x y s t p q. (p ∙ sym q, refl);
   after = λ κs a x y s t p q. (p ∙ sym q, refl);
+  takes = λ κs a x y s t p q. (p ∙ sym q, refl);
   xl-step = λ κs a x y s t p q. (p ∙ sym q, refl);
   xl-receive = λ κs a x y s t p q. (p ∙ sym q, refl);
   xl-status = λ κs a x y s t p q. (p ∙ sym q, refl);

@@ -1,7 +1,4 @@
--- Document 01, 'XL'.
-pub mod Table
+-- Document 01, 'XL': the rules of a state, a step, and the link status.
 pub mod Rules
 pub mod Steps
 pub mod Status
-pub mod Path
-pub mod Links

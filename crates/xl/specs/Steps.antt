@@ -16,7 +16,7 @@ use Rattle.xl_parts.specs.declared.Answer.{Answer}
 use Rattle.xl_parts.specs.declared.Stepped.{Stepped}
 use Rattle.xl_parts.specs.Parts.{packed, done}
 use Rattle.xl_parts.specs.Kinds.{kindOf, same}
-use Rattle.xl.specs.Table.{takes}
+use Rattle.xl_rows.specs.Table.{takes}
 use Rattle.xl.specs.Rules.{rules}
 
 -- the events that a frame goes with

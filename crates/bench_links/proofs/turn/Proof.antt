@@ -3,12 +3,6 @@ use borrow.Author.Needs.{needs}
 use Rattle.bench_links.proofs.turn.Statement.{statement}
 use Rattle.bench_links.proofs.turn.Tie as tie
 
-event-requires : tie.Need-event-requires
-event-requires c κs = search needs
-
-frame-requires : tie.Need-frame-requires
-frame-requires c κs = search needs
-
 step-requires : tie.Need-step-requires
 step-requires c κs = search needs
 
@@ -31,14 +25,12 @@ mix-requires : tie.Need-mix-requires
 mix-requires c κs = search needs
 
 returns : tie.Need-returns
-returns c = rw (c .mix .ensures, c .before .weight4 .ensures, c .before .before .weight3 .ensures, c .before .before .before .weight2 .ensures, c .before .before .before .before .weight .ensures, c .before .before .before .before .before .phase .ensures, c .before .before .before .before .before .before .before .before .step .ensures, c .before .before .before .before .before .before .before .before .before .frame .ensures, c .before .before .before .before .before .before .before .before .before .before .event .ensures)
+returns c = rw (c .mix .ensures, c .before .weight4 .ensures, c .before .before .weight3 .ensures, c .before .before .before .weight2 .ensures, c .before .before .before .before .weight .ensures, c .before .before .before .before .before .phase .ensures, c .before .before .before .before .before .before .before .before .step .ensures)
 
 pub turn-spec : {M : Type 1} → statement M
 turn-spec =
     tie.close
     (tie.spec
-    event-requires
-    frame-requires
     step-requires
     phase-requires
     weight-requires

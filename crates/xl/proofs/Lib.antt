@@ -1,8 +1,0 @@
--- The theorems about XL, for the claims.
-pub mod Rows
-pub mod Walk
-pub mod Links
-pub mod Kept
-pub mod Counts
-pub mod Shown
-pub mod Crossing

@@ -1,0 +1,45 @@
+-- The tests that its callees promise decide the causes in order. Assumes nothing.
+use borrow.Author.Needs.{needs}
+use Rattle.xl.specs.Steps.{stepOf}
+use Rattle.xl.proofs.answers.Statement.{statement}
+use Rattle.xl.proofs.answers.Tie as tie
+
+brings-unlisted-requires : tie.Need-brings-unlisted-requires
+brings-unlisted-requires c κs = search needs
+
+refuses-requires : tie.Need-refuses-requires
+refuses-requires c κs = search needs
+
+returns : tie.Need-returns
+unfolding stepOf
+returns c = rw (c .refuses .ensures, ← c .before .before .brings-unlisted .ensures, c .before .if1 .taken)
+
+keeps-rules-requires : tie.Need-keeps-rules-requires
+keeps-rules-requires c κs = search needs
+
+refuses-requires-2 : tie.Need-refuses-requires-2
+refuses-requires-2 c κs = search needs
+
+returns-2 : tie.Need-returns-2
+unfolding stepOf
+returns-2 c = rw (c .refuses2 .ensures, ← c .before .before .keeps-rules .ensures, ← c .before .before .before .before .brings-unlisted .ensures, c .before .if2 .taken, c .before .before .before .if1 .left)
+
+takes-requires : tie.Need-takes-requires
+takes-requires c κs = search needs
+
+returns-3 : tie.Need-returns-3
+unfolding stepOf
+returns-3 c = rw (c .takes .ensures, ← c .before .before .keeps-rules .ensures, ← c .before .before .before .before .brings-unlisted .ensures, c .before .if2 .left, c .before .before .before .if1 .left)
+
+pub answers-spec : {M : Type 1} → statement M
+answers-spec =
+    tie.close
+    (tie.spec
+    brings-unlisted-requires
+    refuses-requires
+    returns
+    keeps-rules-requires
+    refuses-requires-2
+    returns-2
+    takes-requires
+    returns-3)

@@ -1,0 +1,4 @@
+-- What is said of a link over any calls.
+pub mod Path
+pub mod Links
+pub mod Met

@@ -1,0 +1,2 @@
+-- Document 01, 'XL': its table.
+pub mod Table
