@@ -38,7 +38,7 @@ use Rattle.port_kept.proofs.Cancels.{cancel-keeps}
 use Rattle.port_kept.proofs.Chooses.{choose-keeps}
 use Rattle.port_kept.proofs.Leaves.{by-call}
 use Rattle.port_kept.proofs.Opens.{opened-keeps, failed-keeps}
-use Rattle.port_kept.proofs.Parts.{enable-keeps, disable-keeps, closed-keeps, status-keeps}
+use Rattle.port_kept.proofs.Parted.{enable-keeps, disable-keeps, closed-keeps, status-keeps}
 use Rattle.port_kept.proofs.Submits.{submit-keeps}
 
 -- ---- what the scans of submit and cancel found

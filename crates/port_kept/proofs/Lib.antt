@@ -4,7 +4,7 @@ mod Holds
 mod Spreads
 mod Changes
 mod Enters
-mod Parts
+mod Parted
 mod Opens
 mod Lates
 mod Cancels

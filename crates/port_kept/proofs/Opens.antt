@@ -26,7 +26,7 @@ use Rattle.port_kept.proofs.Changes.{Entered, changed}
 use Rattle.port_kept.proofs.Enters.{free-enters, timed-enters}
 use Rattle.port_kept.proofs.Holds.{low-protocol, Dated, dated-none, dated-now, old-first, old-loss, present-as, present-timed, busy-kept, in-port, phy-kept, on-it, its-present}
 use Rattle.port_kept.proofs.Links.{stay}
-use Rattle.port_kept.proofs.Parts.{parted, idle-kept}
+use Rattle.port_kept.proofs.Parted.{parted, idle-kept}
 use Rattle.port_kept.proofs.Spreads.{Follows}
 
 -- a timer that may stand in the record r from `now` on
