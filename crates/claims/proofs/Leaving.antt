@@ -22,11 +22,11 @@ use Rattle.port_once.specs.Standing.{isSetup, isSubmitted, submits, lastWords, 
 use Rattle.port_once.specs.Turns.{keyed, Comes, Leaves, Rests, Holds, KeepsRules, Zeros}
 use Rattle.port_once.specs.Runs.{Run, now, past}
 use Rattle.port_once.specs.Ends.{Ends}
-use Rattle.port_once.specs.Cancels.{isCancel, isAcknowledged, isGoing, withdrawn}
+use Rattle.port_once.specs.Marks.{isCancel, isAcknowledged, isGoing, since, cancels, closes}
 use Rattle.port_once.proofs.Steps.{promised}
 use Rattle.port_once.proofs.Runs.{comes-when, leaves-when, rests-else, refused-nothing}
 use Rattle.port_once.proofs.Ends.{ends}
-use Rattle.port_once.proofs.Withdrawn.{acknowledged, withheld}
+use Rattle.port_once.proofs.Since.{acknowledged, withheld, closed-once}
 use Rattle.port_once.proofs.Leaving.{tells, alternates, there-exactly, gone-exactly, counts-gone, counts-there, until}
 
 -- what the call c answers behind some calls, and the list that it leaves
@@ -66,9 +66,12 @@ pub record Leaving : Type 0 where
   pub ends : (r : Run) (slot : ℕ) → slot < 32 → (Free (getD (now r .list) slot blank) → ⊥) → Ends (now r) slot
   -- 01 PORT.23
   -- its last word is Cancel Acknowledged exactly if a Cancel of it was taken since its submit, this call or an earlier one
-  pub acknowledged : (r : Run) (c : Call) → isLast (said r c .word) ≡ true → isAcknowledged (said r c .word) ≡ isCancel c || withdrawn (keyed (said r c .frame .head)) (past r)
+  pub acknowledged : (r : Run) (c : Call) → isLast (said r c .word) ≡ true → isAcknowledged (said r c .word) ≡ isCancel c || since cancels (keyed (said r c .frame .head)) (past r)
   -- and from then on neither its frame nor an open for it goes
-  pub withheld : (r : Run) (c : Call) → isGoing (said r c .word) ≡ true → withdrawn (keyed (said r c .frame .head)) (past r) ≡ false
+  pub withheld : (r : Run) (c : Call) → isGoing (said r c .word) ≡ true → since cancels (keyed (said r c .frame .head)) (past r) ≡ false
+  -- 01 PORT.13
+  -- choose closes a phy for it at most once
+  pub closes-once : (r : Run) (c : Call) → closes (record { call = c; answer = said r c }) ≡ true → since closes (keyed (said r c .frame .head)) (past r) ≡ false
 
 keeps : KeepsRules
 keeps c s sized eight rules = kept-sound c s eight rules .1
@@ -90,4 +93,5 @@ leaving = record {
   ends = λ r. ends keeps (now r) (tells keeps r .lawful);
   acknowledged = acknowledged keeps;
   withheld = withheld keeps;
+  closes-once = closed-once keeps;
 }

@@ -2,13 +2,13 @@
 -- present, since a phy and its request name each other, cancel looks for a present one and choose for a waiting one; and the core
 -- stores all zeros exactly with a last word. Assumes nothing.
 use Prim.Native.Nat.{ℕ, suc, _≤_, _<_}
-use mathlib.Core.Path.{_≡_, refl, sym, ap, subst, _∙_}
-use mathlib.Core.Bool.{Bool, true, false, not, cond, _&&_, _||_}
+use mathlib.Core.Path.{_≡_, refl, sym, ap, _∙_}
+use mathlib.Core.Bool.{Bool, true, false, not, cond, _&&_}
 use mathlib.Core.List.{List, _∷_}
 use mathlib.Core.Logic.{_⊎_, inl, inr}
 use native.Mathlib.Omega.{arith}
 use lib.Dec.{eqb, leb, ltb}
-use lib.ListN.{length, getD}
+use lib.ListN.{getD}
 use borrow.Author.Tests.{eqb-true, eq-eqb, leb-false, ltb-true, ltb-false, not-true, not-false}
 use Rattle.laws.proofs.Bools.{never, nor, and-left, by-test}
 use Rattle.laws.proofs.Tests.{Says, equal, either}
@@ -16,7 +16,6 @@ use Rattle.laws.proofs.Finds.{Found, none, at}
 use Rattle.refusals.specs.Causes.{Cause, Ground, Decides, cons}
 use Rattle.refusals.specs.declared.Refusal.{Refusal}
 use Rattle.refusals.proofs.Causes.{NoneGiven, by-causes}
-use Rattle.open_frame.specs.declared.Head.{Head}
 use Rattle.port_parts.specs.Parts.{off, blank, isFree, isWaiting, isSsp, isOpening, isDisabled}
 use Rattle.port_parts.specs.Qualifies.{Qualifies, sends, opens, closes, Right, none, one}
 use Rattle.port_parts.specs.Reasons.{reasonOf, isRetried}
@@ -30,7 +29,7 @@ use Rattle.port_parts.proofs.Choices.{choose-right}
 use Rattle.port_rules.specs.Rules.{rules, names, hasFrameOut}
 use Rattle.port_rules.specs.Kept.{Free, MustName, PhyKept}
 use Rattle.port_core.specs.Answers.{later, withPhy, idlePhy, unchanged, lossBy, told, refusedBy}
-use Rattle.port_core.specs.Calls.{placed, marked, phyAt, isCancelled, isJoined, closedPhy, submitted, cancelled, sent, opening, closing, idle, chosen, connected, again, timerAfter, failedWord, isAgain, failed, framed, closedDone, disabledDone, submitCauses, cancelCauses, chooseCauses, phyCauses, failedCauses, submitOf, cancelOf, chooseOf, openedOf, openFailedOf, frameStatusOf, closedOf, enableOf, disableOf}
+use Rattle.port_core.specs.Calls.{placed, marked, phyAt, isCancelled, isJoined, closedPhy, submitted, cancelled, sent, opening, closing, idle, chosen, connected, again, timerAfter, failed, framed, closedDone, disabledDone, submitCauses, cancelCauses, chooseCauses, phyCauses, failedCauses, submitOf, cancelOf, chooseOf, openedOf, openFailedOf, frameStatusOf, closedOf, enableOf, disableOf}
 use Rattle.port_core.specs.Finds.{roomOf, hasKey, keyOf}
 use Rattle.port_core.specs.declared.Confirmed.{Confirmed}
 use Rattle.port_core.specs.declared.Done.{Done}
@@ -39,9 +38,9 @@ use Rattle.port_core.specs.declared.Report.{Report}
 use Rattle.port_core.specs.declared.Wish.{Wish}
 use Rattle.port_core.specs.declared.Withdrawn.{Withdrawn}
 use Rattle.port_core.specs.declared.Word.{Word}
-use Rattle.port_core.specs.declared.Word.the-variants.{Taken, Submitted, Send, Close, StopArb, Retried, Waiting, CancelAcknowledged, Ended, NexusLoss, ConnectionLost, Status}
+use Rattle.port_core.specs.declared.Word.the-variants.{Taken, Submitted, Send, Close, StopArb, Retried, Waiting, CancelAcknowledged, Ended, NexusLoss, ConnectionLost}
 use Rattle.port.specs.Calls.{leftOf, onPhy, pickAt, submitCall, cancelCall, chooseCall, openedCall, openFailedCall, frameStatusCall, closedCall, enableCall, disableCall}
-use Rattle.port.specs.Grounds.{Present, HasKey, Absent, groundsOf}
+use Rattle.port.specs.Grounds.{Present}
 use Rattle.port.specs.History.{State, Call, setup, submit, cancel, choose, opened, openFailed, frameStatus, closed, enable, disable, doneOf, isRefused, isLast}
 use Rattle.port.specs.declared.Moment.{Moment}
 use Rattle.port.proofs.Refusals.{lowest-free, key-found, causesOf, decides}

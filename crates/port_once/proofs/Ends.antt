@@ -2,11 +2,11 @@
 -- gone. The rules say that neither call is refused at the last time. Assumes nothing.
 use Prim.Native.Nat.{ℕ, zero, suc, _≤_, _<_}
 use mathlib.Core.Path.{_≡_, refl, sym, ap, subst, _∙_}
-use mathlib.Core.Bool.{Bool, true, false, not, cond, _&&_, _||_}
+use mathlib.Core.Bool.{Bool, true, false, not, cond, _||_}
 use mathlib.Core.List.{List}
 use mathlib.Core.Logic.{_⊎_, inl, inr}
 use native.Mathlib.Omega.{arith}
-use lib.Dec.{eqb, leb, ltb}
+use lib.Dec.{eqb, ltb}
 use lib.ListN.{length, getD}
 use borrow.Author.Tests.{eqb-true, eqb-false, eq-eqb, ne-eqb, lt-ltb, le-ltb, lt-leb}
 use Rattle.laws.proofs.Bools.{never, and-true, by-test}
@@ -15,11 +15,11 @@ use Rattle.laws.proofs.Finds.{Found, none, at}
 use Rattle.refusals.proofs.Causes.{unrefused}
 use Rattle.open_frame.specs.declared.Head.{Head}
 use Rattle.open_frame.proofs.Fields.{listed-is}
-use Rattle.port_parts.specs.Parts.{off, blank, isFree, isWaiting, isDisabled}
+use Rattle.port_parts.specs.Parts.{off, blank, isWaiting, isDisabled}
 use Rattle.port_parts.specs.declared.Phy.{Phy}
 use Rattle.port_parts.specs.declared.Port.{Port}
 use Rattle.port_parts.specs.declared.Request.{Request}
-use Rattle.port_rules.specs.Rules.{rules, names}
+use Rattle.port_rules.specs.Rules.{rules}
 use Rattle.port_rules.specs.Kept.{Free, MustName, Present, PhyKept}
 use Rattle.port_rules.proofs.Facts.{rules-say}
 use Rattle.port_core.specs.Answers.{later, withPhy, unchanged, told, refusedBy}
@@ -27,9 +27,7 @@ use Rattle.port_core.specs.Calls.{placed, phyAt, isCancelled, cancelled, disabl
 use Rattle.port_core.specs.Finds.{hasKey, keyOf}
 use Rattle.port_core.specs.declared.Confirmed.{Confirmed}
 use Rattle.port_core.specs.declared.Done.{Done}
-use Rattle.port_core.specs.declared.Key.{Key}
 use Rattle.port_core.specs.declared.Withdrawn.{Withdrawn}
-use Rattle.port_core.specs.declared.Word.{Word}
 use Rattle.port_core.specs.declared.Word.the-variants.{Taken, Waiting, CancelAcknowledged}
 use Rattle.port.specs.Calls.{leftOf, onPhy}
 use Rattle.port.specs.Grounds.{HasKey}

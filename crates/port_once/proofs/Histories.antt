@@ -3,7 +3,7 @@
 use Prim.Native.Nat.{ℕ, _+_, _<_}
 use mathlib.Core.Path.{_≡_, refl, sym, ap, subst, _∙_}
 use mathlib.Core.Bool.{Bool, true, false, cond, _&&_}
-use mathlib.Core.List.{List, [], _∷_, _++_}
+use mathlib.Core.List.{List, [], _∷_}
 use mathlib.Core.Logic.{_⊎_, inl, inr}
 use native.Mathlib.Omega.{arith}
 use native.Mathlib.Decide.{decLt}
@@ -25,7 +25,7 @@ use Rattle.port_core.specs.declared.Word.the-variants.{Taken, Submitted, Nothin
 use Rattle.port.specs.Grounds.{HasKey, Absent}
 use Rattle.port.specs.History.{Call, Entry, isLast, isRefused}
 use Rattle.port_once.specs.Standing.{isSetup, isSubmitted, isOf, accepts, ends, speaks, submits, lastWords, Standing, gone, there, wrong, sameHead, agrees, accepted, ended, spoken, after, standing}
-use Rattle.port_once.specs.Turns.{keyed, Stays, OthersStay, Comes, Leaves, Rests, Turns, Holds}
+use Rattle.port_once.specs.Turns.{Stays, OthersStay, Comes, Leaves, Rests, Turns, Holds}
 
 -- ---- words and keys
 

@@ -1,10 +1,11 @@
 -- Each accepted submit leaves once, with one last word.
 pub mod Records
 pub mod Cores
+pub mod Verdicts
 pub mod Steps
 pub mod Histories
 pub mod Runs
 pub mod Leaving
 pub mod Ends
-pub mod Cancels
-pub mod Withdrawn
+pub mod Marks
+pub mod Since

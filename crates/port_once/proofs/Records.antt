@@ -4,7 +4,7 @@ use Prim.Native.Nat.{ℕ, _<_}
 use mathlib.Core.Path.{_≡_, refl, sym, ap, subst, _∙_}
 use mathlib.Core.Bool.{Bool, true, false, not, cond, _&&_}
 use mathlib.Core.List.{List}
-use mathlib.Core.Logic.{_⊎_, inl, inr}
+use mathlib.Core.Logic.{inl, inr}
 use native.Mathlib.Omega.{arith}
 use lib.Dec.{eqb}
 use lib.ListN.{length, getD}
@@ -16,12 +16,12 @@ use Rattle.port_rules.specs.Kept.{Free}
 use Rattle.port_core.specs.Calls.{timed}
 use Rattle.port_core.specs.declared.Done.{Done}
 use Rattle.port_core.specs.declared.Loss.{Loss}
-use Rattle.port.specs.Calls.{spread, leftStep, leftOf}
+use Rattle.port.specs.Calls.{spread, leftOf}
 use Rattle.port.specs.Grounds.{Absent}
 use Rattle.port.specs.History.{isLast}
 use Rattle.port.proofs.Begins.{left-at}
 use Rattle.port_once.specs.Standing.{isSubmitted}
-use Rattle.port_once.specs.Turns.{keyed, Stays, OthersStay, Comes, Leaves, Rests, Turns}
+use Rattle.port_once.specs.Turns.{keyed, Stays, OthersStay, Turns}
 
 pub stays-self : (r : Request) → Stays r r
 stays-self r = record { free = λ f. refl; present = λ p. (p, refl) }

@@ -3,4 +3,4 @@ pub mod Standing
 pub mod Turns
 pub mod Runs
 pub mod Ends
-pub mod Cancels
+pub mod Marks

@@ -1,4 +1,4 @@
--- Document 01, 'Port': a Cancel in the history of a request, read from calls and answers alone. Assumes nothing.
+-- Document 01, 'Port': what happened to a request since its submit, read from calls and answers alone. Assumes nothing.
 use mathlib.Core.Bool.{Bool, true, false, cond, _&&_, _||_}
 use mathlib.Core.List.{List, [], _∷_}
 use Rattle.port_core.specs.declared.Key.{Key}
@@ -54,8 +54,46 @@ isGoing ConnectionLost = false
 isGoing (Status byte) = false
 isGoing (Refused k) = false
 
+abbrev pub isChoose : Call → Bool
+isChoose (setup count loss) = false
+isChoose (submit x) = false
+isChoose (cancel x) = false
+isChoose (choose x) = true
+isChoose (opened x) = false
+isChoose (openFailed x) = false
+isChoose (frameStatus x) = false
+isChoose (closed x) = false
+isChoose (enable x) = false
+isChoose (disable x) = false
+
+abbrev pub isClose : Word → Bool
+isClose Taken = false
+isClose Submitted = false
+isClose Nothing = false
+isClose Send = false
+isClose Open = false
+isClose Close = true
+isClose StopArb = false
+isClose Retried = false
+isClose Waiting = false
+isClose CancelAcknowledged = false
+isClose (Ended why) = false
+isClose NexusLoss = false
+isClose ConnectionLost = false
+isClose (Status byte) = false
+isClose (Refused k) = false
+
+-- since the last accepted submit of x there was an entry of some kind that names it
+abbrev pub since : (Entry → Bool) → Key → List Entry → Bool
+since kind x [] = false
+since kind x (e ∷ older) = cond (isSetup (e .call)) false (cond (accepts x e) false ((kind e && speaks x e) || since kind x older))
+
 -- 01 PORT.23
--- a Cancel of x was taken since its last accepted submit
-abbrev pub withdrawn : Key → List Entry → Bool
-withdrawn x [] = false
-withdrawn x (e ∷ older) = cond (isSetup (e .call)) false (cond (accepts x e) false ((isCancel (e .call) && speaks x e) || withdrawn x older))
+-- a Cancel of it was taken
+abbrev pub cancels : Entry → Bool
+cancels e = isCancel (e .call)
+
+-- 01 PORT.13
+-- choose closed a phy for it; Cancel's Close is not counted
+abbrev pub closes : Entry → Bool
+closes e = isChoose (e .call) && isClose (e .answer .word)
