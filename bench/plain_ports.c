@@ -89,7 +89,7 @@ static bool apart(const struct request *list, size_t i)
 	const struct request *r = &list[i];
 	for (size_t j = i + 1; j < LENGTH; j++) {
 		const struct request *o = &list[j];
-		if (o->stage == FREE || o->head.destination != r->head.destination) {
+		if (o->head.destination != r->head.destination || o->stage == FREE) {
 			continue;
 		}
 		if (same_key(&o->head, &r->head) || (same_nexus(&o->head, &r->head) && !same_timer(&o->loss, &r->loss))) {
