@@ -228,6 +228,8 @@ use Rattle.bench_steps.proofs.bench_next.Kinds as bench-next-of
 use Rattle.bench_steps.proofs.bench_next.Reads as bench-next
 use Rattle.bench_links.proofs.bench_links.Kinds as bench-links-of
 use Rattle.bench_links.proofs.bench_links.Reads as bench-links
+use Rattle.bench_ports.specs.declared.Reply.{Reply}
+use Rattle.bench_ports.specs.Face.{Told}
 
 -- a function of n lifetimes, parameters ps and result r has one outcome: its answer, and what `left` reads of the lent at exit
 abbrev One : (n : ℕ) (ps : List (kinds.PK n)) (r : kinds.RK n) {L : Type 0} → ((κs : Lifetimes.Lfts n) → Clauses.AtExit (kinds.endedOf n ps r) κs → L) → kinds.Out n ps r → Type 0
@@ -285,6 +287,10 @@ bench-next-left κs s = now (s .1 .1 .1 .1 .1 .1 .1 .1 .1 .0)
 -- a call of the port over a lent list leaves one answer, one port and one list: its promise is literally this record
 abbrev OneCall : (List Request → Done) → Stepped → Type 0
 OneCall does none = (l : List Request) (r r' : Stepped) (after after' : List Request) → Called l (does l) none r after → Called l (does l) none r' after' → (r ≡ r') × (after ≡ after')
+
+-- the same of what C sees of such a call
+abbrev OneReply : (List Request → Done) → Stepped → Type 0
+OneReply does none = (l : List Request) (r r' : Reply) (after after' : List Request) → Told l (does l) none r after → Told l (does l) none r' after' → (r ≡ r') × (after ≡ after')
 
 -- 01 PROMISE.1: Each public function's promise determines its answer, new state and each lent byte, on refusals too.
 -- 01 PROMISE.2: Prove that it admits no second answer; list exceptions in docs/ and why.
@@ -403,6 +409,16 @@ pub record Unique : Type 0 where
   pub bench-turns : One 0 bench-turns-of.ps bench-turns-of.r (none 0 bench-turns-of.ps bench-turns-of.r) bench-turns.Post
   pub bench-next : One 2 bench-next-of.ps bench-next-of.r bench-next-left bench-next.Post
   pub bench-links : One 1 bench-links-of.ps bench-links-of.r (none 1 bench-links-of.ps bench-links-of.r) bench-links.Post
+  pub port-setup : (count loss : ℕ) → OneReply (λ l. setupCall l count loss) (shortSetup count)
+  pub port-submit : (p : Port) (x : Wish) → OneReply (λ l. submitCall l p x) (short p)
+  pub port-cancel : (p : Port) (x : Withdrawn) → OneReply (λ l. cancelCall l p x) (short p)
+  pub port-choose : (p : Port) (x : Moment) → OneReply (λ l. chooseCall l p x) (short p)
+  pub port-opened : (p : Port) (x : Confirmed) → OneReply (λ l. openedCall l p x) (short p)
+  pub port-open-failed : (p : Port) (x : Failure) → OneReply (λ l. openFailedCall l p x) (short p)
+  pub port-frame-status : (p : Port) (x : Report) → OneReply (λ l. frameStatusCall l p x) (short p)
+  pub port-closed : (p : Port) (x : Confirmed) → OneReply (λ l. closedCall l p x) (short p)
+  pub port-enable : (p : Port) (x : Confirmed) → OneReply (λ l. enableCall l p x) (short p)
+  pub port-disable : (p : Port) (x : Confirmed) → OneReply (λ l. disableCall l p x) (short p)
 
 pub unique : Unique
 unique = record {
@@ -519,4 +535,14 @@ unique = record {
   bench-turns = λ κs a x y s t p q. (p ∙ sym q, refl);
   bench-next = λ κs a x y s t p q. (p .answer ∙ sym (q .answer), p .bytes ∙ sym (q .bytes));
   bench-links = λ κs a x y s t p q. (p ∙ sym q, refl);
+  port-setup = λ count loss l r r' after after' c d. (c .0 ∙ sym (d .0), c .1 ∙ sym (d .1));
+  port-submit = λ p x l r r' after after' c d. (c .0 ∙ sym (d .0), c .1 ∙ sym (d .1));
+  port-cancel = λ p x l r r' after after' c d. (c .0 ∙ sym (d .0), c .1 ∙ sym (d .1));
+  port-choose = λ p x l r r' after after' c d. (c .0 ∙ sym (d .0), c .1 ∙ sym (d .1));
+  port-opened = λ p x l r r' after after' c d. (c .0 ∙ sym (d .0), c .1 ∙ sym (d .1));
+  port-open-failed = λ p x l r r' after after' c d. (c .0 ∙ sym (d .0), c .1 ∙ sym (d .1));
+  port-frame-status = λ p x l r r' after after' c d. (c .0 ∙ sym (d .0), c .1 ∙ sym (d .1));
+  port-closed = λ p x l r r' after after' c d. (c .0 ∙ sym (d .0), c .1 ∙ sym (d .1));
+  port-enable = λ p x l r r' after after' c d. (c .0 ∙ sym (d .0), c .1 ∙ sym (d .1));
+  port-disable = λ p x l r r' after after' c d. (c .0 ∙ sym (d .0), c .1 ∙ sym (d .1));
 }

@@ -6,6 +6,7 @@ mod Shared
 mod Turns
 mod FoldFrom
 mod Survey
+mod Still
 mod Leave
 mod Call
 pub mod Told

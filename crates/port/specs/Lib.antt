@@ -1,5 +1,6 @@
 -- Document 01, 'Port': its ten calls over the lent list.
 pub mod Calls
 pub mod Scans
+pub mod Walk
 pub mod History
 pub mod Grounds

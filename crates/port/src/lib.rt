@@ -7,6 +7,7 @@ ghost use Rattle.port_rules.specs.Rules.{againstOf, apartFrom};
 ghost use Rattle.port_rules.specs.Rules as rules;
 ghost use Rattle.port.specs.Calls.{leftStep, leftOf, steppedOf, shortSetup, Called, setupCall, submitCall, cancelCall, chooseCall, openedCall, openFailedCall, frameStatusCall, closedCall, enableCall, disableCall};
 ghost use Rattle.port.specs.Calls as calls;
+ghost use Rattle.port.specs.Walk.{walkFrom, walkTo};
 ghost use Rattle.port.specs.Scans.{surveyed, apartStart, fromOf, setupAsk, setupSlot, setupCore, roomStart, roomJoin, submitAsk, submitSlot, submitCore, keyStart, keyJoin, cancelAsk, cancelSlot, cancelCore, pickStart, pickJoin, chooseAsk, chooseSlot, chooseCore, namedStart, namedJoin, confirmedAsk, failureAsk, reportAsk, confirmedSlot, failureSlot, reportSlot, openedCore, openFailedCore, frameStatusCore, closedCore, enableCore, disableCore};
 use open_frame::Head;
 use port_core::Answer;
@@ -306,13 +307,36 @@ fn left_step(r: Request, i: usize, d: Done) -> Request
     spread(loss, r)
 }
 
+// The first record that a call may change.
+fn left_from(d: Done) -> usize
+    ensures { λ i. ⌜ i ≡ walkFrom d ⌝ }
+{
+    if d.cleared | d.loss.change {
+        return 0;
+    }
+    let i = d.answer.slot as usize;
+    if i < 32 { i } else { 32 }
+}
+
+// The place behind the last record that a call may change.
+fn left_to(d: Done) -> usize
+    ensures { λ i. ⌜ i ≡ walkTo d ⌝ }
+{
+    if d.cleared | d.loss.change {
+        return 32;
+    }
+    let i = d.answer.slot as usize;
+    if i < 32 { i + 1 } else { 32 }
+}
+
 // Every record as the call leaves it, and its answer.
 fn left(list: &mut [Request], d: Done) -> Stepped
     requires { ⌜ length (now list) ≡ 32 ⌝ }
     ensures { λ s. ⌜ (s ≡ steppedOf d) × (now (list .exit) ≡ leftOf (now (list .entry)) d) ⌝ }
 {
-    let mut i = 0;
-    while i < 32 {
+    let mut i = left_from(d);
+    let n = left_to(d);
+    while i < n {
         let r = left_step(list[i], i, d);
         list[i] = r;
         i += 1;

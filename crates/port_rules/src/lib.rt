@@ -155,6 +155,10 @@ pub fn apart_step(kept: bool, r: Request, i: usize, x: Against) -> bool
     ensures { λ a. ⌜ a ≡ apartStep kept r i x ⌝ }
 {
     let h = r.head;
+    // Most pairs have two destinations, and need no more than this.
+    if x.head.destination != h.destination {
+        return kept;
+    }
     let there = x.head.destination == h.destination;
     let alike = x.head.protocol == h.protocol;
     let key = there & (alike & (x.head.tag == h.tag));
