@@ -7,13 +7,15 @@ use mathlib.Core.List.{List, [], _∷_, _++_}
 use mathlib.Core.Logic.{inl, inr}
 use native.Mathlib.Omega.{arith}
 use lib.Dec.{eqb}
-use lib.ListN.{getD}
+use lib.ListN.{length, getD}
 use borrow.Author.Tests.{eqb-true, eqb-false}
 use Rattle.laws.proofs.Bools.{never}
 use Rattle.refusals.specs.declared.Refusal.{Refusal}
 use Rattle.port_parts.specs.Parts.{blank}
 use Rattle.port_parts.specs.declared.Request.{Request}
+use Rattle.port_rules.specs.Rules.{rules}
 use Rattle.port_rules.specs.Kept.{Free}
+use Rattle.port_rules.proofs.Facts.{rules-say}
 use Rattle.port_core.specs.declared.Answer.{Answer}
 use Rattle.port_core.specs.declared.Key.{Key}
 use Rattle.port_core.specs.declared.Word.{Word}
@@ -24,8 +26,9 @@ use Rattle.port.specs.declared.Stepped.{Stepped}
 use Rattle.port_once.specs.Standing.{isSetup, isSubmitted, standing}
 use Rattle.port_once.specs.Turns.{Stays, Comes, Leaves, Rests, Turns, Holds, Lawful, KeepsRules, Zeros}
 use Rattle.port_once.proofs.Records.{stays-self}
+use Rattle.port_once.proofs.Passes.{by-taken, rules-checked}
 use Rattle.port_once.proofs.Cores.{turned}
-use Rattle.port_once.proofs.Steps.{Step, refused, taken, step, answers, refused-names-none, taken-state, taken-entry, lawful-after, setup-zeros, setup-says}
+use Rattle.port_once.proofs.Steps.{Step, refused, taken, step, answers, taken-long, refused-names-none, taken-state, taken-entry, lawful-after, setup-zeros, setup-says}
 use Rattle.port_once.proofs.Histories.{words, holds-on, holds-anew}
 
 -- ---- one call
@@ -47,6 +50,11 @@ turns-of c s ok plain e = by (step c s (ok .list))
     by : Step c s → Turns (s .list) (leave c s .list) (steppedBy c s .answer)
     by (refused off stays none) = absurd (never (sym (ap (λ (a : Answer). isRefused (a .word)) (sym same) ∙ e) ∙ off))
     by (taken on is one) = subst (λ (a : Answer). Turns (s .list) (leave c s .list) a) (sym same) (subst (λ (t : State). Turns (s .list) (t .list) (doneOf c s .answer)) (sym is) (turned s ok c plain on))
+
+rests-refused : (c : Call) (s : State) → isSubmitted (steppedBy c s .answer .word) ≡ false → isLast (steppedBy c s .answer .word) ≡ false → isRefused (steppedBy c s .answer .word) ≡ true → Rests (s .list) (leave c s .list) (steppedBy c s .answer)
+rests-refused c s first last e =
+    subst (λ (t : State). Rests (s .list) (t .list) (steppedBy c s .answer)) (sym (refused-nothing c s e .0))
+    (record { submitted = first; last = last; named = λ h. absurd (let none = refused-names-none c s e in omega (arith, h, none)); all = λ i h. stays-self (getD (s .list) i blank) })
 
 -- the word tells which
 module _ (c : Call) (s : State) (ok : Lawful s) where
@@ -90,10 +98,43 @@ module _ (c : Call) (s : State) (ok : Lawful s) where
       taken-so (inr (inr rest)) = rest
 
       by : (t : Bool) → isRefused said ≡ t → Rests (s .list) (leave c s .list) (steppedBy c s .answer)
-      by true e =
-          subst (λ (t : State). Rests (s .list) (t .list) (steppedBy c s .answer)) (sym (refused-nothing c s e .0))
-          (record { submitted = first; last = last; named = λ h. absurd (let none = refused-names-none c s (ok .list) e in omega (arith, h, none)); all = λ i h. stays-self (getD (s .list) i blank) })
+      by true e = rests-refused c s first last e
       by false e = taken-so (turns-of c s ok plain e)
+
+-- ---- any lent state: one that breaks its rules is refused
+
+-- a port has eight phys
+abbrev Eight : State → Type 0
+Eight s = length (s .port .phys) ≡ 8
+
+-- a call but setup is taken only of a lawful state
+taken-lawful : (c : Call) (s : State) → Eight s → isSetup c ≡ false → isRefused (steppedBy c s .answer .word) ≡ false → Lawful s
+taken-lawful c s eight plain on =
+    let long = taken-long c s on in
+    record { list = long; phys = eight; kept = rules-say (s .port) (s .list) .0 (by-taken (λ _. rules (s .port) (s .list) ≡ true) c s (rules-checked c s plain) (ap (λ (r : Stepped). isRefused (r .answer .word)) (sym (answers c s long)) ∙ on)) }
+
+-- a word on a request is no setup's, whatever the list
+word-plain : (c : Call) (s : State) (f : Word → Bool) → f Taken ≡ false → ((k : Refusal) → f (Refused k) ≡ false) → (f (steppedBy c s .answer .word) ≡ true → isRefused (steppedBy c s .answer .word) ≡ false) → f (steppedBy c s .answer .word) ≡ true → isSetup c ≡ false
+word-plain c s f begins refuses taken-too e = by (isSetup c) refl
+  where
+    by : (t : Bool) → isSetup c ≡ t → t ≡ false
+    by true is = absurd (never (sym (ap (λ (r : Stepped). f (r .answer .word)) (answers c s (taken-long c s (taken-too e))) ∙ setup-says c s f begins refuses is) ∙ e))
+    by false is = refl
+
+pub comes-any : (c : Call) (s : State) → Eight s → isSubmitted (steppedBy c s .answer .word) ≡ true → Comes (s .list) (leave c s .list) (steppedBy c s .answer)
+comes-any c s eight e =
+    let on = words (steppedBy c s .answer .word) .1 in
+    comes-when c s (taken-lawful c s eight (word-plain c s isSubmitted refl (λ k. refl) on e) (on e)) e
+
+pub leaves-any : (c : Call) (s : State) → Eight s → isLast (steppedBy c s .answer .word) ≡ true → Leaves (s .list) (leave c s .list) (steppedBy c s .answer)
+leaves-any c s eight e = leaves-when c s (taken-lawful c s eight (word-plain c s isLast refl (λ k. refl) (λ d. words (steppedBy c s .answer .word) .0 d .1) e) (words (steppedBy c s .answer .word) .0 e .1)) e
+
+pub rests-any : (c : Call) (s : State) → Eight s → isSetup c ≡ false → isSubmitted (steppedBy c s .answer .word) ≡ false → isLast (steppedBy c s .answer .word) ≡ false → Rests (s .list) (leave c s .list) (steppedBy c s .answer)
+rests-any c s eight plain first last = by (isRefused (steppedBy c s .answer .word)) refl
+  where
+    by : (t : Bool) → isRefused (steppedBy c s .answer .word) ≡ t → Rests (s .list) (leave c s .list) (steppedBy c s .answer)
+    by true e = rests-refused c s first last e
+    by false e = rests-else c s (taken-lawful c s eight plain e) plain first last
 
 -- ---- free records
 

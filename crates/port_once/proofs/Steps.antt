@@ -10,7 +10,7 @@ use borrow.Author.Tests.{eqb-true, eq-eqb}
 use Rattle.laws.proofs.Bools.{never}
 use Rattle.refusals.specs.Causes.{_when_}
 use Rattle.refusals.specs.declared.Refusal.{Refusal}
-use Rattle.refusals.proofs.Causes.{by-causes, unrefused}
+use Rattle.refusals.proofs.Causes.{unrefused}
 use Rattle.port_parts.specs.Parts.{off, blank}
 use Rattle.port_parts.specs.declared.Request.{Request}
 use Rattle.port_rules.specs.Rules.{inRange}
@@ -18,7 +18,6 @@ use Rattle.port_rules.specs.Kept.{InRange}
 use Rattle.port_rules.proofs.Facts.{range-says}
 use Rattle.port_core.specs.Answers.{fresh, noPort, refusedBy}
 use Rattle.port_core.specs.Calls.{bare, setupOf}
-use Rattle.port_core.specs.declared.Answer.{Answer}
 use Rattle.port_core.specs.declared.Done.{Done}
 use Rattle.port_core.specs.declared.Word.{Word}
 use Rattle.port_core.specs.declared.Word.the-variants.{Taken, Refused}
@@ -30,6 +29,7 @@ use Rattle.port.proofs.Promised.{refused-leaves}
 use Rattle.port_once.specs.Standing.{isSetup}
 use Rattle.port_once.specs.Turns.{Lawful, KeepsRules}
 use Rattle.port_once.proofs.Records.{cleared-at}
+use Rattle.port_once.proofs.Passes.{takenAt, by-call, by-taken}
 use Rattle.port_once.proofs.Verdicts.{Verdict, stopped, passed, verdict}
 
 -- ---- refused or taken
@@ -81,16 +81,53 @@ refused-stays c s e = by (verdict s c)
     by (stopped q k is eight) = ap (leftOf (s .list)) is ∙ refused-leaves (s .list) q k
     by (passed w eight) = absurd (never (sym w ∙ e))
 
--- and names no slot
-pub refused-names-none : (c : Call) (s : State) → length (s .list) ≡ 32 → isRefused (steppedBy c s .answer .word) ≡ true → steppedBy c s .answer .slot ≡ 32
-refused-names-none c s len e = same (λ (a : Answer). a .slot) ∙ by (verdict s c)
-  where
-    same : {A : Type 0} (f : Answer → A) → f (steppedBy c s .answer) ≡ f (doneOf c s .answer)
-    same f = ap (λ (r : Stepped). f (r .answer)) (answers c s len)
+-- a list of another length is refused
+short-refused : (c : Call) (s : State) → isRefused (shortOf c s .answer .word) ≡ true
+short-refused (setup count loss) s = refl
+short-refused (submit x) s = refl
+short-refused (cancel x) s = refl
+short-refused (choose x) s = refl
+short-refused (opened x) s = refl
+short-refused (openFailed x) s = refl
+short-refused (frameStatus x) s = refl
+short-refused (closed x) s = refl
+short-refused (enable x) s = refl
+short-refused (disable x) s = refl
 
-    by : Verdict s (doneOf c s) → doneOf c s .answer .slot ≡ 32
-    by (stopped q k is eight) = ap (λ (d : Done). d .answer .slot) is
-    by (passed w eight) = absurd (never (sym w ∙ sym (same (λ (a : Answer). isRefused (a .word))) ∙ e))
+short-names-none : (c : Call) (s : State) → shortOf c s .answer .slot ≡ 32
+short-names-none (setup count loss) s = refl
+short-names-none (submit x) s = refl
+short-names-none (cancel x) s = refl
+short-names-none (choose x) s = refl
+short-names-none (opened x) s = refl
+short-names-none (openFailed x) s = refl
+short-names-none (frameStatus x) s = refl
+short-names-none (closed x) s = refl
+short-names-none (enable x) s = refl
+short-names-none (disable x) s = refl
+
+pub taken-long : (c : Call) (s : State) → isRefused (steppedBy c s .answer .word) ≡ false → length (s .list) ≡ 32
+taken-long c s on = by (eqb (length (s .list)) 32) refl
+  where
+    by : (t : Bool) → eqb (length (s .list)) 32 ≡ t → length (s .list) ≡ 32
+    by true e = eqb-true (length (s .list)) 32 e
+    by false e = absurd (never (sym on ∙ ap (λ (t : Bool). isRefused (cond t (steppedOf (doneOf c s)) (shortOf c s) .answer .word)) e ∙ short-refused c s))
+
+-- a refusal names no slot
+pub refused-names-none : (c : Call) (s : State) → isRefused (steppedBy c s .answer .word) ≡ true → steppedBy c s .answer .slot ≡ 32
+refused-names-none c s off = by (eqb (length (s .list)) 32) refl
+  where
+    long : isRefused (doneOf c s .answer .word) ≡ true → Verdict s (doneOf c s) → doneOf c s .answer .slot ≡ 32
+    long e (stopped q k is eight) = ap (λ (d : Done). d .answer .slot) is
+    long e (passed w eight) = absurd (never (sym w ∙ e))
+
+    -- the answer by the length of the list
+    at : Bool → Stepped
+    at t = cond t (steppedOf (doneOf c s)) (shortOf c s)
+
+    by : (t : Bool) → eqb (length (s .list)) 32 ≡ t → steppedBy c s .answer .slot ≡ 32
+    by true e = ap (λ (t : Bool). at t .answer .slot) e ∙ long (ap (λ (t : Bool). isRefused (at t .answer .word)) (sym e) ∙ off) (verdict s c)
+    by false e = ap (λ (t : Bool). at t .answer .slot) e ∙ short-names-none c s
 
 -- ---- what the promise admits is what the history says
 
@@ -108,19 +145,7 @@ promised c s r after met = (met .0, met .1 ∙ by (eqb (length (s .list)) 32) re
     by true e = long (eqb-true (length (s .list)) 32 e)
     by false e =
         (λ i. cond (e i) (leftOf (s .list) (doneOf c s)) (s .list))
-        ∙ sym (ap (λ (t : State). t .list) ((λ i. cond (isRefused (cond (e i) (steppedOf (doneOf c s)) (shortOf c s) .answer .word)) s (record { port = cond (e i) (steppedOf (doneOf c s)) (shortOf c s) .port; list = cond (e i) (leftOf (s .list) (doneOf c s)) (s .list) })) ∙ ap (λ (t : Bool). cond t s (record { port = shortOf c s .port; list = s .list })) (short-refused c)))
-      where
-        short-refused : (c : Call) → isRefused (shortOf c s .answer .word) ≡ true
-        short-refused (setup count loss) = refl
-        short-refused (submit x) = refl
-        short-refused (cancel x) = refl
-        short-refused (choose x) = refl
-        short-refused (opened x) = refl
-        short-refused (openFailed x) = refl
-        short-refused (frameStatus x) = refl
-        short-refused (closed x) = refl
-        short-refused (enable x) = refl
-        short-refused (disable x) = refl
+        ∙ sym (ap (λ (t : State). t .list) ((λ i. cond (isRefused (cond (e i) (steppedOf (doneOf c s)) (shortOf c s) .answer .word)) s (record { port = cond (e i) (steppedOf (doneOf c s)) (shortOf c s) .port; list = cond (e i) (leftOf (s .list) (doneOf c s)) (s .list) })) ∙ ap (λ (t : Bool). cond t s (record { port = shortOf c s .port; list = s .list })) (short-refused c s)))
 
 -- ---- a lawful state stays one
 
@@ -148,11 +173,9 @@ unfolding doneOf setupOf
 setup-is count loss s range =
     sym (unrefused (refusedBy noPort) (begun count loss) ((Refusal.Rules when not (inRange count loss)) ∷ []) (ap not (range-says count loss .1 range), tt))
 
-pub setup-clears : (count loss : ℕ) (s : State) → isRefused (doneOf (setup count loss) s .answer .word) ≡ false → doneOf (setup count loss) s .cleared ≡ true
-unfolding doneOf setupOf
-setup-clears count loss s =
-    by-causes (λ (d : Done). isRefused (d .answer .word) ≡ false → d .cleared ≡ true) (refusedBy noPort) (λ k e. absurd (never (sym e))) ((Refusal.Rules when not (inRange count loss)) ∷ [])
-    (begun count loss) (λ _ _. refl)
+setup-clears : (count loss : ℕ) (s : State) → isRefused (doneOf (setup count loss) s .answer .word) ≡ false → doneOf (setup count loss) s .cleared ≡ true
+unfolding takenAt
+setup-clears count loss s = by-taken (λ (d : Done). d .cleared ≡ true) (setup count loss) s (λ _. refl)
 
 -- what holds of every setup holds of a call that is one
 by-setup : (P : Call → Type 0) → ((count loss : ℕ) → P (setup count loss)) → (c : Call) → isSetup c ≡ true → P c
@@ -175,10 +198,8 @@ setup-zeros c s len =
 
 -- a setup's word is Taken or a refusal
 pub setup-says : (c : Call) (s : State) (f : Word → Bool) → f Taken ≡ false → ((k : Refusal) → f (Refused k) ≡ false) → isSetup c ≡ true → f (doneOf c s .answer .word) ≡ false
-unfolding doneOf setupOf
-setup-says c s f a b =
-    by-setup (λ (c : Call). f (doneOf c s .answer .word) ≡ false)
-    (λ count loss. by-causes (λ (d : Done). f (d .answer .word) ≡ false) (refusedBy noPort) b ((Refusal.Rules when not (inRange count loss)) ∷ []) (begun count loss) (λ _. a)) c
+unfolding takenAt
+setup-says c s f a b = by-setup (λ (c : Call). f (doneOf c s .answer .word) ≡ false) (λ count loss. by-call (λ (d : Done). f (d .answer .word) ≡ false) (setup count loss) s b (λ _. a)) c
 
 -- the first setup, in range, is taken, whatever the list held
 pub begins : (count loss : ℕ) (s : State) → length (s .list) ≡ 32 → InRange count loss
