@@ -5,6 +5,7 @@ pub mod Cores
 pub mod Verdicts
 pub mod Steps
 pub mod Histories
+pub mod Turns
 pub mod Runs
 pub mod Leaving
 pub mod Ends

@@ -66,7 +66,7 @@ module _ (c : Call) (s : State) where
 
 -- ---- what follows from a call's verdict
 
-eight-done : (c : Call) (s : State) → length (s .port .phys) ≡ 8 → length (doneOf c s .port .phys) ≡ 8
+pub eight-done : (c : Call) (s : State) → length (s .port .phys) ≡ 8 → length (doneOf c s .port .phys) ≡ 8
 eight-done c s e = by (verdict s c)
   where
     by : Verdict s (doneOf c s) → length (doneOf c s .port .phys) ≡ 8
