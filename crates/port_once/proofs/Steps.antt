@@ -16,8 +16,9 @@ use Rattle.port_parts.specs.declared.Request.{Request}
 use Rattle.port_rules.specs.Rules.{inRange}
 use Rattle.port_rules.specs.Kept.{InRange}
 use Rattle.port_rules.proofs.Facts.{range-says}
-use Rattle.port_core.specs.Answers.{fresh, noPort, refusedBy}
+use Rattle.port_core.specs.Answers.{nameless, fresh, noPort, refusedBy}
 use Rattle.port_core.specs.Calls.{bare, setupOf}
+use Rattle.port_core.specs.declared.Answer.{Answer}
 use Rattle.port_core.specs.declared.Done.{Done}
 use Rattle.port_core.specs.declared.Word.{Word}
 use Rattle.port_core.specs.declared.Word.the-variants.{Taken, Refused}
@@ -82,36 +83,24 @@ refused-stays c s e = by (verdict s c)
     by (passed w eight) = absurd (never (sym w ∙ e))
 
 -- a list of another length is refused
-short-refused : (c : Call) (s : State) → isRefused (shortOf c s .answer .word) ≡ true
-short-refused (setup count loss) s = refl
-short-refused (submit x) s = refl
-short-refused (cancel x) s = refl
-short-refused (choose x) s = refl
-short-refused (opened x) s = refl
-short-refused (openFailed x) s = refl
-short-refused (frameStatus x) s = refl
-short-refused (closed x) s = refl
-short-refused (enable x) s = refl
-short-refused (disable x) s = refl
-
-short-names-none : (c : Call) (s : State) → shortOf c s .answer .slot ≡ 32
-short-names-none (setup count loss) s = refl
-short-names-none (submit x) s = refl
-short-names-none (cancel x) s = refl
-short-names-none (choose x) s = refl
-short-names-none (opened x) s = refl
-short-names-none (openFailed x) s = refl
-short-names-none (frameStatus x) s = refl
-short-names-none (closed x) s = refl
-short-names-none (enable x) s = refl
-short-names-none (disable x) s = refl
+short-says : (c : Call) (s : State) → shortOf c s .answer ≡ nameless (Refused Refusal.Length)
+short-says (setup count loss) s = refl
+short-says (submit x) s = refl
+short-says (cancel x) s = refl
+short-says (choose x) s = refl
+short-says (opened x) s = refl
+short-says (openFailed x) s = refl
+short-says (frameStatus x) s = refl
+short-says (closed x) s = refl
+short-says (enable x) s = refl
+short-says (disable x) s = refl
 
 pub taken-long : (c : Call) (s : State) → isRefused (steppedBy c s .answer .word) ≡ false → length (s .list) ≡ 32
 taken-long c s on = by (eqb (length (s .list)) 32) refl
   where
     by : (t : Bool) → eqb (length (s .list)) 32 ≡ t → length (s .list) ≡ 32
     by true e = eqb-true (length (s .list)) 32 e
-    by false e = absurd (never (sym on ∙ ap (λ (t : Bool). isRefused (cond t (steppedOf (doneOf c s)) (shortOf c s) .answer .word)) e ∙ short-refused c s))
+    by false e = absurd (never (sym on ∙ ap (λ (t : Bool). isRefused (cond t (steppedOf (doneOf c s)) (shortOf c s) .answer .word)) e ∙ ap (λ (a : Answer). isRefused (a .word)) (short-says c s)))
 
 -- a refusal names no slot
 pub refused-names-none : (c : Call) (s : State) → isRefused (steppedBy c s .answer .word) ≡ true → steppedBy c s .answer .slot ≡ 32
@@ -127,7 +116,7 @@ refused-names-none c s off = by (eqb (length (s .list)) 32) refl
 
     by : (t : Bool) → eqb (length (s .list)) 32 ≡ t → steppedBy c s .answer .slot ≡ 32
     by true e = ap (λ (t : Bool). at t .answer .slot) e ∙ long (ap (λ (t : Bool). isRefused (at t .answer .word)) (sym e) ∙ off) (verdict s c)
-    by false e = ap (λ (t : Bool). at t .answer .slot) e ∙ short-names-none c s
+    by false e = ap (λ (t : Bool). at t .answer .slot) e ∙ ap (λ (a : Answer). a .slot) (short-says c s)
 
 -- ---- what the promise admits is what the history says
 
@@ -145,7 +134,7 @@ promised c s r after met = (met .0, met .1 ∙ by (eqb (length (s .list)) 32) re
     by true e = long (eqb-true (length (s .list)) 32 e)
     by false e =
         (λ i. cond (e i) (leftOf (s .list) (doneOf c s)) (s .list))
-        ∙ sym (ap (λ (t : State). t .list) ((λ i. cond (isRefused (cond (e i) (steppedOf (doneOf c s)) (shortOf c s) .answer .word)) s (record { port = cond (e i) (steppedOf (doneOf c s)) (shortOf c s) .port; list = cond (e i) (leftOf (s .list) (doneOf c s)) (s .list) })) ∙ ap (λ (t : Bool). cond t s (record { port = shortOf c s .port; list = s .list })) (short-refused c s)))
+        ∙ sym (ap (λ (t : State). t .list) ((λ i. cond (isRefused (cond (e i) (steppedOf (doneOf c s)) (shortOf c s) .answer .word)) s (record { port = cond (e i) (steppedOf (doneOf c s)) (shortOf c s) .port; list = cond (e i) (leftOf (s .list) (doneOf c s)) (s .list) })) ∙ ap (λ (t : Bool). cond t s (record { port = shortOf c s .port; list = s .list })) (ap (λ (a : Answer). isRefused (a .word)) (short-says c s))))
 
 -- ---- a lawful state stays one
 
