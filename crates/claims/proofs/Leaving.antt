@@ -1,12 +1,12 @@
 -- Each accepted submit of the port leaves by one last word, and is present until then, over any calls from a setup on, refused calls and
--- later setups among them. What was submitted and what ended is read from the calls that were taken and their answers alone. It
--- rests on every call's keeping the rules of a state. Assumes nothing.
+-- later setups among them. What was submitted and what ended is read from the calls that were taken and their answers alone. A state that breaks
+-- its rules is refused, so that nothing of this rests on their being kept, but that a request can leave. Assumes nothing.
 use Prim.Native.Nat.{ℕ, _+_, _<_}
 use mathlib.Core.Bool.{true, false, _||_}
 use mathlib.Core.List.{List, []}
 use mathlib.Core.Logic.{_↔_}
 use mathlib.Core.Path.{_≡_}
-use lib.ListN.{getD}
+use lib.ListN.{length, getD}
 use Rattle.open_frame.specs.declared.Head.{Head}
 use Rattle.port_parts.specs.Parts.{blank}
 use Rattle.port_parts.specs.declared.Request.{Request}
@@ -17,35 +17,31 @@ use Rattle.port.specs.Calls.{Called}
 use Rattle.port.specs.Grounds.{HasKey, Absent}
 use Rattle.port.specs.History.{State, Call, doneOf, shortOf, steppedBy, isRefused, isLast, leave, run, entriesOf, history}
 use Rattle.port.specs.declared.Stepped.{Stepped}
-use Rattle.port_kept.proofs.Runs.{kept-sound}
 use Rattle.port_once.specs.Standing.{isSetup, isSubmitted, submits, lastWords, gone, there, wrong, standing, silent}
-use Rattle.port_once.specs.Turns.{keyed, Comes, Leaves, Rests, Holds, KeepsRules, Zeros}
+use Rattle.port_once.specs.Turns.{keyed, Comes, Leaves, Rests, Holds, Zeros}
 use Rattle.port_once.specs.Runs.{Run, now, past}
 use Rattle.port_once.specs.Ends.{Ends}
 use Rattle.port_once.specs.Marks.{isCancel, isAcknowledged, isGoing, since, cancels, closes}
 use Rattle.port_once.proofs.Steps.{promised}
-use Rattle.port_once.proofs.Runs.{comes-when, leaves-when, rests-else, refused-nothing}
-use Rattle.port_once.proofs.Ends.{ends}
+use Rattle.port_once.proofs.Turns.{comes-when, leaves-when, rests-else, refused-nothing}
+use Rattle.port_once.proofs.Ends.{ends-from}
 use Rattle.port_once.proofs.Since.{acknowledged, withheld, closed-once}
 use Rattle.port_once.proofs.Leaving.{tells, alternates, there-exactly, gone-exactly, counts-gone, counts-there, until}
 
--- what the call c answers behind some calls, and the list that it leaves
+-- what the call c answers behind some calls
 abbrev said : Run → Call → Answer
 said r c = steppedBy c (now r) .answer
-
-abbrev next : Run → Call → List Request
-next r c = leave c (now r) .list
 
 pub record Leaving : Type 0 where
   -- what a call's promise admits is what the history says of it
   pub promised : (c : Call) (s : State) (r : Stepped) (after : List Request) → Called (s .list) (doneOf c s) (shortOf c s) r after → (r ≡ steppedBy c s) × (after ≡ leave c s .list)
-  -- one call. 01 PORT.11
+  -- one call of any lent state; a port has eight phys. 01 PORT.11
   -- Submitted: a request comes into the lowest free slot, no request had its key, and the answer names its slot and head
-  pub comes : (r : Run) (c : Call) → isSubmitted (said r c .word) ≡ true → Comes (now r .list) (next r c) (said r c)
+  pub comes : (c : Call) (s : State) → length (s .port .phys) ≡ 8 → isSubmitted (steppedBy c s .answer .word) ≡ true → Comes (s .list) (leave c s .list) (steppedBy c s .answer)
   -- a last word: the request that it names by slot and head was present and is all zeros
-  pub leaves : (r : Run) (c : Call) → isLast (said r c .word) ≡ true → Leaves (now r .list) (next r c) (said r c)
+  pub leaves : (c : Call) (s : State) → length (s .port .phys) ≡ 8 → isLast (steppedBy c s .answer .word) ≡ true → Leaves (s .list) (leave c s .list) (steppedBy c s .answer)
   -- any other word but a setup's: no request comes and none leaves
-  pub rests : (r : Run) (c : Call) → isSetup c ≡ false → isSubmitted (said r c .word) ≡ false → isLast (said r c .word) ≡ false → Rests (now r .list) (next r c) (said r c)
+  pub rests : (c : Call) (s : State) → length (s .port .phys) ≡ 8 → isSetup c ≡ false → isSubmitted (steppedBy c s .answer .word) ≡ false → isLast (steppedBy c s .answer .word) ≡ false → Rests (s .list) (leave c s .list) (steppedBy c s .answer)
   -- a refused call changes nothing and is not in the history
   pub refused : (c : Call) (s : State) → isRefused (steppedBy c s .answer .word) ≡ true → (leave c s ≡ s) × (entriesOf c s ≡ [])
   -- any calls, for each key: submits and last words alternate, a submit first, and every answer between them names what was submitted
@@ -62,8 +58,6 @@ pub record Leaving : Type 0 where
   -- 01 PORT.11
   -- a free record is all zeros
   pub zeros : (r : Run) → Zeros (now r .list)
-  -- and it can leave: one call says a last word on it, or one behind another that is no setup
-  pub ends : (r : Run) (slot : ℕ) → slot < 32 → (Free (getD (now r .list) slot blank) → ⊥) → Ends (now r) slot
   -- 01 PORT.23
   -- its last word is Cancel Acknowledged exactly if a Cancel of it was taken since its submit, this call or an earlier one
   pub acknowledged : (r : Run) (c : Call) → isLast (said r c .word) ≡ true → isAcknowledged (said r c .word) ≡ isCancel c || since cancels (keyed (said r c .frame .head)) (past r)
@@ -72,26 +66,25 @@ pub record Leaving : Type 0 where
   -- 01 PORT.13
   -- choose closes a phy for it at most once
   pub closes-once : (r : Run) (c : Call) → closes (record { call = c; answer = said r c }) ≡ true → since closes (keyed (said r c .frame .head)) (past r) ≡ false
-
-keeps : KeepsRules
-keeps c s sized eight rules = kept-sound c s eight rules .1
+  -- a request that is present can leave: one call says a last word on it, or one behind another that is no setup
+  pub ends : (r : Run) (slot : ℕ) → slot < 32 → (Free (getD (now r .list) slot blank) → ⊥) → Ends (now r) slot
 
 pub leaving : Leaving
 leaving = record {
   promised = promised;
-  comes = λ r c. comes-when c (now r) (tells keeps r .lawful);
-  leaves = λ r c. leaves-when c (now r) (tells keeps r .lawful);
-  rests = λ r c. rests-else c (now r) (tells keeps r .lawful);
+  comes = comes-when;
+  leaves = leaves-when;
+  rests = rests-else;
   refused = refused-nothing;
-  alternates = alternates keeps;
-  present = there-exactly keeps;
-  absent = gone-exactly keeps;
-  as-many = counts-gone keeps;
-  one-fewer = counts-there keeps;
-  until = until keeps;
-  zeros = λ r. tells keeps r .zeros;
-  ends = λ r. ends keeps (now r) (tells keeps r .lawful);
-  acknowledged = acknowledged keeps;
-  withheld = withheld keeps;
-  closes-once = closed-once keeps;
+  alternates = alternates;
+  present = there-exactly;
+  absent = gone-exactly;
+  as-many = counts-gone;
+  one-fewer = counts-there;
+  until = until;
+  zeros = λ r. tells r .zeros;
+  acknowledged = acknowledged;
+  withheld = withheld;
+  closes-once = closed-once;
+  ends = ends-from;
 }

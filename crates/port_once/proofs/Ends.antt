@@ -3,7 +3,7 @@
 use Prim.Native.Nat.{ℕ, zero, suc, _≤_, _<_}
 use mathlib.Core.Path.{_≡_, refl, sym, ap, subst, _∙_}
 use mathlib.Core.Bool.{Bool, true, false, not, cond, _||_}
-use mathlib.Core.List.{List}
+use mathlib.Core.List.{List, [], _∷_}
 use mathlib.Core.Logic.{_⊎_, inl, inr}
 use native.Mathlib.Omega.{arith}
 use lib.Dec.{eqb, ltb}
@@ -31,13 +31,14 @@ use Rattle.port_core.specs.declared.Withdrawn.{Withdrawn}
 use Rattle.port_core.specs.declared.Word.the-variants.{Taken, Waiting, CancelAcknowledged}
 use Rattle.port.specs.Calls.{leftOf, onPhy}
 use Rattle.port.specs.Grounds.{HasKey}
-use Rattle.port.specs.History.{State, Call, cancel, disable, doneOf, isRefused, isLast, leave}
+use Rattle.port.specs.History.{State, Call, setup, run, cancel, disable, doneOf, isRefused, isLast, leave}
 use Rattle.port.specs.declared.Stepped.{Stepped}
 use Rattle.port.proofs.Refusals.{key-found}
-use Rattle.port_once.specs.Turns.{keyed, Lawful, KeepsRules}
+use Rattle.port_once.specs.Turns.{keyed, Lawful}
+use Rattle.port_once.specs.Runs.{Run, now}
 use Rattle.port_once.specs.Ends.{LastOn, Ends, at-once, second}
 use Rattle.port_once.proofs.Records.{at-slot}
-use Rattle.port_once.proofs.Steps.{Step, refused, taken, step, answers, lawful-after}
+use Rattle.port_once.proofs.Steps.{Step, refused, taken, step, answers, lawful-after, begins}
 use Rattle.port_once.proofs.Histories.{of-says, one-of-key}
 
 last-on : (s : State) (c : Call) (d : Done) (slot : ℕ) (head : Head) → length (s .list) ≡ 32 → doneOf c s ≡ d → isLast (d .answer .word) ≡ true → d .answer .slot ≡ slot → d .answer .frame .head ≡ head → LastOn s c slot head
@@ -177,8 +178,8 @@ module _ (s : State) (ok : Lawful s) (slot : ℕ) (below : slot < 32) (there : F
         by (refused no-way stays empty) = absurd (never (sym (ap (λ (d : Done). isRefused (d .answer .word)) is) ∙ no-way))
         by (taken on left one) = ap (λ (t : State). getD (t .list) slot blank) left ∙ ap (λ (d : Done). getD (leftOf l d) slot blank) is ∙ at-slot l (disable-done false) (ok .list) refl below
 
-pub ends : KeepsRules → (s : State) → Lawful s → (slot : ℕ) → slot < 32 → (Free (getD (s .list) slot blank) → ⊥) → Ends s slot
-ends keeps s ok slot below there = by (eqb (r .stage) 1) refl (isCancelled r) refl
+ends : (s : State) → Lawful s → (slot : ℕ) → slot < 32 → (Free (getD (s .list) slot blank) → ⊥) → Ends s slot
+ends s ok slot below there = by (eqb (r .stage) 1) refl (isCancelled r) refl
   where
     r : Request
     r = getD (s .list) slot blank
@@ -197,10 +198,19 @@ ends keeps s ok slot below there = by (eqb (r .stage) 1) refl (isCancelled r) re
     by false w true c = at-once (disable (y s ok slot below there (busy w))) (disabling-ends s ok slot below there (busy w) c)
     by false w false c =
         let b = disable (y s ok slot below there (busy w)) in
-        let after = lawful-after keeps b s ok in
+        let after = lawful-after b s ok in
         let again = waits-again s ok slot below there (busy w) c in
         let waits : getD (leave b s .list) slot blank .stage ≡ 1 = ap (λ (q : Request). q .stage) again in
         let still : Free (getD (leave b s .list) slot blank) → ⊥ = λ e. omega (arith, waits, e) in
         let cancels = cancel (x (leave b s) after slot below still) in
         second b cancels refl
         (subst (LastOn (leave b s) cancels slot) (ap (λ (q : Request). q .head) again) (waiting-ends (leave b s) after slot below still waits))
+
+-- from a setup on
+lawful-run : (cs : List Call) (s : State) → Lawful s → Lawful (run cs s)
+lawful-run [] s ok = ok
+lawful-run (c ∷ cs) s ok = lawful-run cs (leave c s) (lawful-after c s ok)
+
+pub ends-from : (r : Run) (slot : ℕ) → slot < 32 → (Free (getD (now r .list) slot blank) → ⊥) → Ends (now r) slot
+ends-from r =
+    ends (now r) (lawful-run (r .calls) (leave (setup (r .count) (r .loss)) (r .lent)) (begins (r .count) (r .loss) (r .lent) (r .sized) (r .range) .1 .0))

@@ -15,12 +15,13 @@ use Rattle.port_core.specs.declared.Key.{Key}
 use Rattle.port.specs.Grounds.{HasKey, Absent}
 use Rattle.port.specs.History.{State, Call, setup, steppedBy, leave, run, Entry, entriesOf, history}
 use Rattle.port_once.specs.Standing.{isSetup, isSubmitted, accepts, ends, speaks, submits, lastWords, Standing, gone, there, wrong, agrees, accepted, ended, spoken, standing, silent}
-use Rattle.port_once.specs.Turns.{keyed, Holds, KeepsRules}
+use Rattle.port_once.specs.Turns.{keyed, Holds}
 use Rattle.port_once.specs.Runs.{Run, now, past}
 use Rattle.port_once.proofs.Steps.{begun, begins}
 use Rattle.port_once.proofs.Records.{cleared-at}
-use Rattle.port_once.proofs.Histories.{words, one, one-of-key, there-not-wrong, gone-not-wrong, counted}
-use Rattle.port_once.proofs.Runs.{comes-when, Tells, tells-anew, tells-after, tells-run}
+use Rattle.port_once.proofs.Histories.{words, one, there-not-wrong, gone-not-wrong, counted}
+use Rattle.port_once.proofs.Turns.{comes-when}
+use Rattle.port_once.proofs.Runs.{Tells, tells-anew, tells-after, tells-run}
 
 -- ---- from a setup on
 
@@ -37,7 +38,7 @@ module _ (r : Run) where
   pub begins-so : Tells (entriesOf first (r .lent) ++ []) (leave first (r .lent))
   begins-so =
       let known = begins (r .count) (r .loss) (r .lent) (r .sized) (r .range) .1 in
-      subst (λ (es : List Entry). Tells (es ++ []) (leave first (r .lent))) (sym (known .1)) (tells-anew first (begun (r .count) (r .loss) .answer) [] (leave first (r .lent)) refl (known .0) begins-zeros)
+      subst (λ (es : List Entry). Tells (es ++ []) (leave first (r .lent))) (sym (known .1)) (tells-anew first (begun (r .count) (r .loss) .answer) [] (leave first (r .lent)) refl (known .0 .list) (known .0 .phys) begins-zeros)
 
 -- ---- what a history that tells the state says
 
@@ -51,7 +52,7 @@ module _ (h : List Entry) (s : State) (t : Tells h s) (x : Key) where
       by : (v : Standing) → Holds x v (s .list) → v ≡ there slot head
       by gone off = absurd (off slot (k .0) (k .1 .0))
       by (there i g) q =
-          let at : i ≡ slot = one-of-key (s .port) (s .list) x (t .lawful .kept) i slot (q .0) (k .0) (q .1 .0) (k .1 .0) in
+          let at : i ≡ slot = t .one x i slot (q .0) (k .0) (q .1 .0) (k .1 .0) in
           let same : g ≡ head = sym (q .1 .1) ∙ ap (λ (n : ℕ). getD (s .list) n blank .head) at ∙ k .1 .1 in
           λ j. there (at j) (same j)
       by wrong q = absurd q
@@ -72,9 +73,9 @@ module _ (h : List Entry) (s : State) (t : Tells h s) (x : Key) where
       let more : one (standing x h) ≡ 1 = ap one (there-now slot (getD (s .list) slot blank .head) (below, (k, refl))) in
       omega (arith, counted x h fine, more)
 
-module _ (keeps : KeepsRules) (r : Run) where
+module _ (r : Run) where
   pub tells : Tells (past r) (now r)
-  tells = tells-run keeps (r .calls) (leave (first r) (r .lent)) (entriesOf (first r) (r .lent) ++ []) (begins-so r)
+  tells = tells-run (r .calls) (leave (first r) (r .lent)) (entriesOf (first r) (r .lent) ++ []) (begins-so r)
 
   module _ (x : Key) where
     pub alternates : standing x (past r) ≡ wrong → ⊥
@@ -128,7 +129,7 @@ still-there x slot head h (e ∷ q) quiet at fine = by (isSetup (e .call)) (ends
     by false false false false v quiet before fine = before quiet fine
 
 -- a request that a call c submits
-module _ (keeps : KeepsRules) (r : Run) (c : Call) (submitted : isSubmitted (steppedBy c (now r) .answer .word) ≡ true) where
+module _ (r : Run) (c : Call) (submitted : isSubmitted (steppedBy c (now r) .answer .word) ≡ true) where
   abbrev a : Answer
   a = steppedBy c (now r) .answer
 
@@ -140,12 +141,12 @@ module _ (keeps : KeepsRules) (r : Run) (c : Call) (submitted : isSubmitted (ste
   entered = ap (λ (t : Bool). cond t [] (record { call = c; answer = a } ∷ [])) (words (a .word) .1 submitted)
 
   behind : Tells (record { call = c; answer = a } ∷ past r) (leave c (now r))
-  behind = subst (λ (es : List Entry). Tells (es ++ past r) (leave c (now r))) entered (tells-after keeps c (now r) (past r) (tells keeps r))
+  behind = subst (λ (es : List Entry). Tells (es ++ past r) (leave c (now r))) entered (tells-after c (now r) (past r) (tells r))
 
   -- and stands there behind the call, since its key was absent
   stands : standing x (record { call = c; answer = a } ∷ past r) ≡ there (a .slot) (a .frame .head)
   stands =
-      let come = comes-when c (now r) (tells keeps r .lawful) submitted in
+      let come = comes-when c (now r) (tells r .phys) submitted in
       there-now (record { call = c; answer = a } ∷ past r) (leave c (now r)) behind x (a .slot) (a .frame .head) (come .slot, ((come .present, ap-key (come .head)), come .head))
     where
       ap-key : {h : Head} → h ≡ a .frame .head → (h .destination ≡ x .destination) × ((h .protocol ≡ x .protocol) × (h .tag ≡ x .tag))
@@ -154,7 +155,7 @@ module _ (keeps : KeepsRules) (r : Run) (c : Call) (submitted : isSubmitted (ste
   -- whatever calls follow, while they neither set up anew nor say a last word on it, it is there with its slot and head
   pub until : (ds : List Call) → silent x (history ds (leave c (now r)) []) ≡ true → Holds x (there (a .slot) (a .frame .head)) (run ds (leave c (now r)) .list)
   until ds quiet =
-      let all = tells-run keeps ds (leave c (now r)) (record { call = c; answer = a } ∷ past r) behind in
+      let all = tells-run ds (leave c (now r)) (record { call = c; answer = a } ∷ past r) behind in
       let parted = history-joins ds (leave c (now r)) (record { call = c; answer = a } ∷ past r) in
       let fine : standing x (history ds (leave c (now r)) [] ++ (record { call = c; answer = a } ∷ past r)) ≡ wrong → ⊥ = λ e. subst (λ (v : Standing). Holds x v (run ds (leave c (now r)) .list)) (ap (standing x) parted ∙ e) (all .holds x) in
       subst (λ (v : Standing). Holds x v (run ds (leave c (now r)) .list))

@@ -9,12 +9,10 @@ use mathlib.Core.Logic.{_⊎_, inl, inr}
 use native.Mathlib.Omega.{arith}
 use lib.Dec.{eqb}
 use lib.ListN.{getD}
-use borrow.Author.Tests.{ne-eqb, eqb-true, ltb-false, not-false}
+use borrow.Author.Tests.{ne-eqb, eqb-true, ltb-false}
 use Rattle.laws.proofs.Bools.{never, by-test}
-use Rattle.refusals.specs.Causes.{refuse}
-use Rattle.refusals.specs.declared.Refusal.{Refusal}
-use Rattle.refusals.proofs.Causes.{by-causes}
-use Rattle.port_parts.specs.Parts.{off, blank, isWaiting, isSsp, isOpening, isDisabled, isSending}
+use Rattle.refusals.proofs.Causes.{NoneGiven}
+use Rattle.port_parts.specs.Parts.{off, blank, isWaiting, isSsp, isOpening}
 use Rattle.port_parts.specs.Parts as parts
 use Rattle.port_parts.specs.Qualifies.{Qualifies, sends, opens, closes, Right, none, one}
 use Rattle.port_parts.specs.Reasons.{reasonOf, isRetried}
@@ -25,25 +23,23 @@ use Rattle.port_parts.specs.declared.Port.{Port}
 use Rattle.port_parts.specs.declared.Reason.{Reason}
 use Rattle.port_parts.specs.declared.Request.{Request}
 use Rattle.port_parts.proofs.Choices.{choose-right}
-use Rattle.port_rules.specs.Rules.{rules, names, hasFrameOut}
+use Rattle.port_rules.specs.Rules.{rules, names}
 use Rattle.port_rules.specs.Kept.{Free, Present}
-use Rattle.port_core.specs.Answers.{later, withPhy, idlePhy, joinedPhy, stagedPhy, unchanged, lossBy, told, refusedBy}
-use Rattle.port_core.specs.Calls.{placed, marked, timed, phyAt, isCancelled, isJoined, closedPhy, submitted, cancelled, sent, opening, closing, idle, chosen, connected, again, timerAfter, failed, submitCauses, cancelCauses, chooseCauses, phyCauses, failedCauses, submitOf, cancelOf, chooseOf, openedOf, openFailedOf, frameStatusOf, closedOf, enableOf, disableOf}
-use Rattle.port_core.specs.Finds.{roomOf, keyOf}
+use Rattle.port_core.specs.Calls.{phyAt, isCancelled, cancelled, sent, opening, closing, idle, chosen, connected, timerAfter, failed, framed, closedDone, disabledDone, phyCauses}
+use Rattle.port_core.specs.Finds.{keyOf}
 use Rattle.port_core.specs.declared.Done.{Done}
 use Rattle.port_core.specs.declared.Confirmed.{Confirmed}
 use Rattle.port_core.specs.declared.Failure.{Failure}
 use Rattle.port_core.specs.declared.Report.{Report}
 use Rattle.port_core.specs.declared.Wish.{Wish}
-use Rattle.port_core.specs.declared.Withdrawn.{Withdrawn}
-use Rattle.port_core.specs.declared.Word.the-variants.{Taken, Submitted, Send, Close, StopArb, Retried, Waiting, CancelAcknowledged, Ended, NexusLoss, ConnectionLost, Status}
 use Rattle.port.specs.Calls.{onPhy, pickAt}
 use Rattle.port.specs.History.{State, Call, setup, submit, cancel, choose, opened, openFailed, frameStatus, closed, enable, disable, doneOf, isRefused, isLast}
 use Rattle.port.specs.declared.Moment.{Moment}
 use Rattle.port_once.specs.Standing.{isSetup, isSubmitted}
 use Rattle.port_once.specs.Turns.{Lawful}
 use Rattle.port_once.specs.Marks.{isCancel, isAcknowledged, isGoing, isChoose, isClose}
-use Rattle.port_once.proofs.Cores.{waits, numbered, phy-kept}
+use Rattle.port_once.proofs.Passes.{submittedTo, endedBy, stoppedBy, openedBy, failedBy, framedBy, closedBy, disabledBy, enabledBy, causesAt, takenAt, by-taken}
+use Rattle.port_once.proofs.Cores.{waits, numbered, opening-names}
 
 -- what is left of the marks at the answer's slot, where the list was l; the call is a Cancel or not, a choose or not
 pub record Marks (l : List Request) (canceling choosing : Bool) (d : Done) : Type 0 where
@@ -61,12 +57,6 @@ module _ (s : State) (ok : Lawful s) where
 
   abbrev p : Port
   p = s .port
-
-  abbrev Marked : Bool → Bool → Done → Type 0
-  Marked c k d = isRefused (d .answer .word) ≡ false → Marks l c k d
-
-  stopped : (c k : Bool) (n : Refusal) → Marked c k (refusedBy p n)
-  stopped c k n e = absurd (never (sym e))
 
   -- an answer that is neither Submitted nor a last word
   rest : (c k : Bool) (d : Done) → d .cleared ≡ false → isSubmitted (d .answer .word) ≡ false → isLast (d .answer .word) ≡ false
@@ -92,30 +82,20 @@ module _ (s : State) (ok : Lawful s) where
   unmarked r (inl f) w = absurd (omega (arith, f, w))
   unmarked r (inr k) w = ne-eqb (r .cancelled) 1 (λ e. let busy = k .cancelled e in omega (arith, w, busy))
 
-  submit-marks : (x : Wish) → Marked false false (doneOf (submit x) s)
-  unfolding doneOf submitOf
+  submit-marks : (x : Wish) → Marks l false false (submittedTo s x)
   submit-marks x =
-      by-causes (Marked false false) (refusedBy p) (stopped false false) (submitCauses p (rules p l) (roomOf l (x .head)) x) d
-      (λ _ _. record { some = refl; new = λ _. (refl, refl); same = λ e _ _. absurd (never (sym e)); last = λ e. absurd (never e); goes = λ e. absurd (never e); once = λ e. absurd (never e) })
-    where
-      d : Done
-      d = told (later p (x .now)) Submitted (roomOf l (x .head) .free) 8 (submitted (roomOf l (x .head)) x) (submitted (roomOf l (x .head)) x) unchanged
+      record { some = refl; new = λ _. (refl, refl); same = λ e _ _. absurd (never (sym e)); last = λ e. absurd (never e); goes = λ e. absurd (never e); once = λ e. absurd (never e) }
 
-  cancel-marks : (x : Withdrawn) → Marked true false (doneOf (cancel x) s)
-  unfolding doneOf cancelOf cancelled
-  cancel-marks x =
-      by-causes (Marked true false) (refusedBy p) (stopped true false) (cancelCauses p r (rules p l) k x) (cancelled p r k (x .now))
-      (λ _ _. by-test (Marks l true false) (isWaiting r) (λ _. end true (told (later p (x .now)) CancelAcknowledged k 8 r blank unchanged) refl refl refl refl refl) (λ _. in-progress (isOpening (phyAt p (r .phy)))))
+  cancelled-marks : (k now : ℕ) → Marks l true false (cancelled p (getD l k blank) k now)
+  unfolding cancelled
+  cancelled-marks k now = by-test (Marks l true false) (isWaiting r) (λ _. end true (endedBy p r k now) refl refl refl refl refl) (λ _. stopping (isOpening (phyAt p (r .phy))))
     where
-      k : ℕ
-      k = keyOf l (x .key)
-
       r : Request
       r = getD l k blank
 
-      in-progress : (t : Bool) → Marks l true false (told (withPhy p (r .phy) (closedPhy (phyAt p (r .phy))) (x .now)) (cond t StopArb Close) k (r .phy) r (marked r 1 (r .closed)) unchanged)
-      in-progress true = holds-back true _ refl refl refl refl (λ _. (refl, refl))
-      in-progress false = holds-back true _ refl refl refl refl (λ _. (refl, refl))
+      stopping : (t : Bool) → Marks l true false (stoppedBy p r k now t)
+      stopping true = holds-back true (stoppedBy p r k now true) refl refl refl refl (λ _. (refl, refl))
+      stopping false = holds-back true (stoppedBy p r k now false) refl refl refl refl (λ _. (refl, refl))
 
   -- what closes a phy qualifies by rule (3)
   unclosed : (r : Request) (f : Phy) (now step : ℕ) → Qualifies now r f step → step ≡ 3 → r .closed ≡ 0
@@ -123,11 +103,9 @@ module _ (s : State) (ok : Lawful s) where
   unclosed r f now step (opens a ready b) e = absurd (omega (arith, a, e))
   unclosed r f now step (closes a ready b c d) e = d
 
-  choose-marks : (x : Moment) → Marked false true (doneOf (choose x) s)
-  unfolding doneOf chooseOf chosen
-  choose-marks x =
-      by-causes (Marked false true) (refusedBy p) (stopped false true) (chooseCauses p (rules p l) (x .now)) (chosen p (getD l (pickAt l p (x .now) .slot) blank) (pickAt l p (x .now)) (x .now))
-      (λ _ _. by (pickAt l p (x .now)) (choose-right (record { phys = p .phys; now = x .now }) l (ok .phys)))
+  choose-marks : (x : Moment) → Marks l false true (chosen p (getD l (pickAt l p (x .now) .slot) blank) (pickAt l p (x .now)) (x .now))
+  unfolding chosen
+  choose-marks x = by (pickAt l p (x .now)) (choose-right (record { phys = p .phys; now = x .now }) l (ok .phys))
     where
       nothing : Marks l false true (idle p (x .now))
       nothing = rest false true (idle p (x .now)) refl refl refl (λ h. absurd (omega arith)) (λ e. absurd (never e)) (λ e. absurd (never e))
@@ -145,125 +123,98 @@ module _ (s : State) (ok : Lawful s) where
 
   -- ---- a phy's calls, by whether its request is cancelled
 
-  by-mark : (k now : ℕ) (unfit : Bool) (d : Bool → Done) → ((t : Bool) → isCancelled (onPhy l p k) ≡ t → Marks l false false (d t)) → Marked false false (refuse (refusedBy p) (phyCauses p (rules p l) k now unfit) (d (isCancelled (onPhy l p k))))
-  by-mark k now unfit d marks = by-causes (Marked false false) (refusedBy p) (stopped false false) (phyCauses p (rules p l) k now unfit) (d (isCancelled (onPhy l p k))) (λ _ _. marks (isCancelled (onPhy l p k)) refl)
-
-  opened-marks : (x : Confirmed) → Marked false false (doneOf (opened x) s)
-  unfolding doneOf openedOf
-  opened-marks x =
-      by-causes (Marked false false) (refusedBy p) (stopped false false) (phyCauses p (rules p l) (x .phy) (x .now) (not (isOpening g))) (connected p g q x)
-      (λ pass _. by (phy-kept s ok (x .phy) (numbered s ok (x .phy) (x .now) (not (isOpening g)) pass) .must (inl (eqb-true (g .stage) 2 (not-false (isOpening g) (pass .1 .1 .1 .0))))) (isCancelled q) refl)
+  opened-marks : (x : Confirmed) → NoneGiven (phyCauses p (rules p l) (x .phy) (x .now) (not (isOpening (phyAt p (x .phy))))) → Marks l false false (connected p (phyAt p (x .phy)) (onPhy l p (x .phy)) x)
+  opened-marks x pass = cases (isCancelled r) refl
     where
-      q : Request
-      q = onPhy l p (x .phy)
+      f : Phy
+      f = phyAt p (x .phy)
 
-      g : Phy
-      g = phyAt p (x .phy)
+      r : Request
+      r = onPhy l p (x .phy)
 
-      d : Bool → Done
-      d t =
-          told (withPhy p (x .phy) (joinedPhy (cond t 5 4) (g .slot) (q .head)) (x .now)) (cond t Close Send) (g .slot) (x .phy) q (timed q (cond (isSsp (q .head)) parts.none (q .loss))) (lossBy q parts.none)
+      named : f .slot < 32
+      named = opening-names s ok (x .phy) (numbered s ok (x .phy) (x .now) (not (isOpening f)) pass) (pass .1 .1 .1 .0)
 
-      by : g .slot < 32 → (t : Bool) → isCancelled q ≡ t → Marks l false false (d t)
-      by named true e = holds-back false (d true) refl refl refl refl (λ _. (refl, refl))
-      by named false e = rest false false (d false) refl refl refl (λ _. (refl, refl)) (λ _. (named, e)) (λ e. absurd (never e))
+      cases : (t : Bool) → isCancelled r ≡ t → Marks l false false (openedBy p f r x t)
+      cases true e = holds-back false (openedBy p f r x true) refl refl refl refl (λ _. (refl, refl))
+      cases false e = rest false false (openedBy p f r x false) refl refl refl (λ _. (refl, refl)) (λ _. (named, e)) (λ e. absurd (never e))
 
-  open-failed-marks : (x : Failure) → Marked false false (doneOf (openFailed x) s)
-  unfolding doneOf openFailedOf
-  open-failed-marks x =
-      by-causes (Marked false false) (refusedBy p) (stopped false false) (failedCauses p (rules p l) x (not (isOpening g))) (failed p g q why (x .phy) (x .now))
-      (λ _ _. by (isCancelled q) refl (isRetried why) (isSsp (q .head) && isLost (timerAfter q why (x .now)) (p .loss) (x .now)))
+  open-failed-marks : (x : Failure) → Marks l false false (failed p (phyAt p (x .phy)) (onPhy l p (x .phy)) (reasonOf (x .why)) (x .phy) (x .now))
+  open-failed-marks x = cases (isCancelled r) refl (isRetried why) (isSsp (r .head) && isLost (timerAfter r why (x .now)) (p .loss) (x .now))
     where
-      q : Request
-      q = onPhy l p (x .phy)
-
-      g : Phy
-      g = phyAt p (x .phy)
+      r : Request
+      r = onPhy l p (x .phy)
 
       why : Reason
       why = reasonOf (x .why)
 
-      d : Bool → Bool → Bool → Done
-      d t u v =
-          told (withPhy p (x .phy) idlePhy (x .now)) (cond t CancelAcknowledged (cond (not u) (Ended why) (cond v NexusLoss Retried))) (g .slot) (x .phy) q
-          (cond (not t && (u && not v)) (again q why (x .now) (timerAfter q why (x .now))) blank) (lossBy q (timerAfter q why (x .now)))
+      left : Bool → Bool → Bool → Done
+      left = failedBy p (phyAt p (x .phy)) r why (x .phy) (x .now)
 
-      by : (t : Bool) → isCancelled q ≡ t → (u v : Bool) → Marks l false false (d t u v)
-      by true e u v = end false (d true u v) refl refl refl refl (sym e)
-      by false e false v = end false (d false false v) refl refl refl refl (sym e)
-      by false e true true = end false (d false true true) refl refl refl refl (sym e)
-      by false e true false = holds-back false (d false true false) refl refl refl refl (λ _. (refl, refl))
+      cases : (t : Bool) → isCancelled r ≡ t → (u v : Bool) → Marks l false false (left t u v)
+      cases true e u v = end false (left true u v) refl refl refl refl (sym e)
+      cases false e false v = end false (left false false v) refl refl refl refl (sym e)
+      cases false e true true = end false (left false true true) refl refl refl refl (sym e)
+      cases false e true false = holds-back false (left false true false) refl refl refl refl (λ _. (refl, refl))
 
-  frame-status-marks : (x : Report) → Marked false false (doneOf (frameStatus x) s)
-  unfolding doneOf frameStatusOf
-  frame-status-marks x = by-mark (x .phy) (x .now) (not (hasFrameOut g)) d by
+  frame-status-marks : (x : Report) → Marks l false false (framed p (phyAt p (x .phy)) (onPhy l p (x .phy)) x)
+  frame-status-marks x = cases (isCancelled r) refl
     where
-      q : Request
-      q = onPhy l p (x .phy)
+      f : Phy
+      f = phyAt p (x .phy)
 
-      g : Phy
-      g = phyAt p (x .phy)
+      r : Request
+      r = onPhy l p (x .phy)
 
-      d : Bool → Done
-      d t = told (withPhy p (x .phy) (stagedPhy (cond (isSending g) 3 5) 32 g) (x .now)) (cond t CancelAcknowledged (Status (x .status))) (g .slot) (x .phy) q blank unchanged
+      cases : (t : Bool) → isCancelled r ≡ t → Marks l false false (framedBy p f r x t)
+      cases true e = end false (framedBy p f r x true) refl refl refl refl (sym e)
+      cases false e = end false (framedBy p f r x false) refl refl refl refl (sym e)
 
-      by : (t : Bool) → isCancelled q ≡ t → Marks l false false (d t)
-      by true e = end false (d true) refl refl refl refl (sym e)
-      by false e = end false (d false) refl refl refl refl (sym e)
-
-  closed-marks : (x : Confirmed) → Marked false false (doneOf (closed x) s)
-  unfolding doneOf closedOf
-  closed-marks x = by-mark (x .phy) (x .now) (not (isJoined g)) (d (names g)) (λ t e. by (names g) refl t e)
+  closed-marks : (x : Confirmed) → Marks l false false (closedDone p (phyAt p (x .phy)) (onPhy l p (x .phy)) x)
+  closed-marks x = cases (names f) refl (isCancelled r) refl
     where
-      q : Request
-      q = onPhy l p (x .phy)
+      f : Phy
+      f = phyAt p (x .phy)
 
-      g : Phy
-      g = phyAt p (x .phy)
+      r : Request
+      r = onPhy l p (x .phy)
 
-      d : Bool → Bool → Done
-      d n t = told (withPhy p (x .phy) idlePhy (x .now)) (cond n (cond t CancelAcknowledged ConnectionLost) Taken) (g .slot) (x .phy) q blank unchanged
+      cases : (n : Bool) → names f ≡ n → (t : Bool) → isCancelled r ≡ t → Marks l false false (closedBy p f r x n t)
+      cases true m true e = end false (closedBy p f r x true true) refl refl refl refl (sym e)
+      cases true m false e = end false (closedBy p f r x true false) refl refl refl refl (sym e)
+      cases false m t e = holds-back false (closedBy p f r x false t) refl refl refl refl (λ h. absurd (let past = ltb-false (f .slot) 32 m in omega (arith, h, past)))
 
-      by : (n : Bool) → names g ≡ n → (t : Bool) → isCancelled q ≡ t → Marks l false false (d n t)
-      by true m true e = end false (d true true) refl refl refl refl (sym e)
-      by true m false e = end false (d true false) refl refl refl refl (sym e)
-      by false m t e = holds-back false (d false t) refl refl refl refl (λ h. absurd (let past = ltb-false (g .slot) 32 m in omega (arith, h, past)))
+  enable-marks : (x : Confirmed) → Marks l false false (enabledBy p (onPhy l p (x .phy)) x)
+  enable-marks x = holds-back false (enabledBy p (onPhy l p (x .phy)) x) refl refl refl refl (λ h. absurd (omega arith))
 
-  enable-marks : (x : Confirmed) → Marked false false (doneOf (enable x) s)
-  unfolding doneOf enableOf
-  enable-marks x =
-      by-causes (Marked false false) (refusedBy p) (stopped false false) (phyCauses p (rules p l) (x .phy) (x .now) (not (isDisabled (phyAt p (x .phy))))) d
-      (λ _ _. holds-back false d refl refl refl refl (λ h. absurd (omega arith)))
+  disable-marks : (x : Confirmed) → Marks l false false (disabledDone p (phyAt p (x .phy)) (onPhy l p (x .phy)) x)
+  disable-marks x = cases (names f) refl (isCancelled r) refl
     where
-      d : Done
-      d = told (withPhy p (x .phy) idlePhy (x .now)) Taken 32 (x .phy) (onPhy l p (x .phy)) blank unchanged
+      f : Phy
+      f = phyAt p (x .phy)
 
-  disable-marks : (x : Confirmed) → Marked false false (doneOf (disable x) s)
-  unfolding doneOf disableOf
-  disable-marks x = by-mark (x .phy) (x .now) (isDisabled g) (d (names g)) (λ t e. by (names g) refl t e)
-    where
-      q : Request
-      q = onPhy l p (x .phy)
+      r : Request
+      r = onPhy l p (x .phy)
 
-      g : Phy
-      g = phyAt p (x .phy)
+      cases : (n : Bool) → names f ≡ n → (t : Bool) → isCancelled r ≡ t → Marks l false false (disabledBy p f r x n t)
+      cases true m true e = end false (disabledBy p f r x true true) refl refl refl refl (sym e)
+      cases true m false e = holds-back false (disabledBy p f r x true false) refl refl refl refl (λ _. (refl, refl))
+      cases false m t e = holds-back false (disabledBy p f r x false t) refl refl refl refl (λ h. absurd (let past = ltb-false (f .slot) 32 m in omega (arith, h, past)))
 
-      d : Bool → Bool → Done
-      d n t = told (withPhy p (x .phy) off (x .now)) (cond n (cond t CancelAcknowledged Waiting) Taken) (g .slot) (x .phy) q (cond t blank (placed q 1 0)) unchanged
+  -- ---- all of them
 
-      by : (n : Bool) → names g ≡ n → (t : Bool) → isCancelled q ≡ t → Marks l false false (d n t)
-      by true m true e = end false (d true true) refl refl refl refl (sym e)
-      by true m false e = holds-back false (d true false) refl refl refl refl (λ _. (refl, refl))
-      by false m t e = holds-back false (d false t) refl refl refl refl (λ h. absurd (let past = ltb-false (g .slot) 32 m in omega (arith, h, past)))
+  marks : (c : Call) → isSetup c ≡ false → NoneGiven (causesAt c s) → Marks l (isCancel c) (isChoose c) (takenAt c s)
+  unfolding causesAt takenAt
+  marks (setup count loss) e pass = absurd (never (sym e))
+  marks (submit x) e pass = submit-marks x
+  marks (cancel x) e pass = cancelled-marks (keyOf l (x .key)) (x .now)
+  marks (choose x) e pass = choose-marks x
+  marks (opened x) e pass = opened-marks x pass
+  marks (openFailed x) e pass = open-failed-marks x
+  marks (frameStatus x) e pass = frame-status-marks x
+  marks (closed x) e pass = closed-marks x
+  marks (enable x) e pass = enable-marks x
+  marks (disable x) e pass = disable-marks x
 
-  pub marked-so : (c : Call) → isSetup c ≡ false → Marked (isCancel c) (isChoose c) (doneOf c s)
-  marked-so (setup count loss) e = absurd (never (sym e))
-  marked-so (submit x) e = submit-marks x
-  marked-so (cancel x) e = cancel-marks x
-  marked-so (choose x) e = choose-marks x
-  marked-so (opened x) e = opened-marks x
-  marked-so (openFailed x) e = open-failed-marks x
-  marked-so (frameStatus x) e = frame-status-marks x
-  marked-so (closed x) e = closed-marks x
-  marked-so (enable x) e = enable-marks x
-  marked-so (disable x) e = disable-marks x
+  pub marked-so : (c : Call) → isSetup c ≡ false → isRefused (doneOf c s .answer .word) ≡ false → Marks l (isCancel c) (isChoose c) (doneOf c s)
+  marked-so c e = by-taken (Marks l (isCancel c) (isChoose c)) c s (marks c e)

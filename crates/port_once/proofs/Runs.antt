@@ -2,98 +2,28 @@
 -- all zeros, and each call keeps it so. Assumes nothing.
 use Prim.Native.Nat.{ℕ, _+_, _<_}
 use mathlib.Core.Path.{_≡_, refl, sym, ap, subst, _∙_}
-use mathlib.Core.Bool.{Bool, true, false, cond}
+use mathlib.Core.Bool.{Bool, true, false}
 use mathlib.Core.List.{List, [], _∷_, _++_}
 use mathlib.Core.Logic.{inl, inr}
-use native.Mathlib.Omega.{arith}
 use lib.Dec.{eqb}
-use lib.ListN.{getD}
+use lib.ListN.{length, getD}
 use borrow.Author.Tests.{eqb-true, eqb-false}
-use Rattle.laws.proofs.Bools.{never}
-use Rattle.refusals.specs.declared.Refusal.{Refusal}
+use Rattle.open_frame.specs.declared.Head.{Head}
 use Rattle.port_parts.specs.Parts.{blank}
 use Rattle.port_parts.specs.declared.Request.{Request}
 use Rattle.port_rules.specs.Kept.{Free}
 use Rattle.port_core.specs.declared.Answer.{Answer}
 use Rattle.port_core.specs.declared.Key.{Key}
-use Rattle.port_core.specs.declared.Word.{Word}
-use Rattle.port_core.specs.declared.Word.the-variants.{Taken, Refused}
-use Rattle.port.specs.Calls.{leftOf, on32}
-use Rattle.port.specs.History.{State, Call, doneOf, steppedBy, isRefused, isLast, leave, run, Entry, entriesOf, history}
-use Rattle.port.specs.declared.Stepped.{Stepped}
-use Rattle.port_once.specs.Standing.{isSetup, isSubmitted, standing}
-use Rattle.port_once.specs.Turns.{Stays, Comes, Leaves, Rests, Turns, Holds, Lawful, KeepsRules, Zeros}
-use Rattle.port_once.proofs.Records.{stays-self}
+use Rattle.port.specs.Grounds.{HasKey}
+use Rattle.port.specs.Calls.{leftOf}
+use Rattle.port.specs.History.{State, Call, doneOf, leave, run, Entry, entriesOf, history}
+use Rattle.port.proofs.Begins.{left-length}
+use Rattle.port_once.specs.Standing.{isSetup, standing}
+use Rattle.port_once.specs.Turns.{Stays, Comes, Leaves, Turns, Holds, Zeros}
 use Rattle.port_once.proofs.Cores.{turned}
-use Rattle.port_once.proofs.Steps.{Step, refused, taken, step, answers, refused-names-none, taken-state, taken-entry, lawful-after, setup-zeros, setup-says}
-use Rattle.port_once.proofs.Histories.{words, holds-on, holds-anew}
-
--- ---- one call
-
--- a call that is refused adds nothing and changes nothing
-pub refused-nothing : (c : Call) (s : State) → isRefused (steppedBy c s .answer .word) ≡ true → (leave c s ≡ s) × (entriesOf c s ≡ [])
-refused-nothing c s e = (
-  ap (λ (t : Bool). cond t s (record { port = steppedBy c s .port; list = on32 (s .list) (leftOf (s .list) (doneOf c s)) (s .list) })) e,
-  ap (λ (t : Bool). cond t [] (record { call = c; answer = steppedBy c s .answer } ∷ [])) e,
-)
-
--- a call that is taken and is no setup: a request comes, one leaves, or none does
-pub turns-of : (c : Call) (s : State) → Lawful s → isSetup c ≡ false → isRefused (steppedBy c s .answer .word) ≡ false → Turns (s .list) (leave c s .list) (steppedBy c s .answer)
-turns-of c s ok plain e = by (step c s (ok .list))
-  where
-    same : steppedBy c s .answer ≡ doneOf c s .answer
-    same = ap (λ (r : Stepped). r .answer) (answers c s (ok .list))
-
-    by : Step c s → Turns (s .list) (leave c s .list) (steppedBy c s .answer)
-    by (refused off stays none) = absurd (never (sym (ap (λ (a : Answer). isRefused (a .word)) (sym same) ∙ e) ∙ off))
-    by (taken on is one) = subst (λ (a : Answer). Turns (s .list) (leave c s .list) a) (sym same) (subst (λ (t : State). Turns (s .list) (t .list) (doneOf c s .answer)) (sym is) (turned s ok c plain on))
-
--- the word tells which
-module _ (c : Call) (s : State) (ok : Lawful s) where
-  abbrev said : Word
-  said = steppedBy c s .answer .word
-
-  same-word : said ≡ doneOf c s .answer .word
-  same-word = ap (λ (r : Stepped). r .answer .word) (answers c s (ok .list))
-
-  -- a word on a request is no setup's
-  pub no-setup : (f : Word → Bool) → f Taken ≡ false → ((k : Refusal) → f (Refused k) ≡ false) → f said ≡ true → isSetup c ≡ false
-  no-setup f begins refuses e = by (isSetup c) refl
-    where
-      by : (t : Bool) → isSetup c ≡ t → t ≡ false
-      by true is = absurd (never (sym (ap f same-word ∙ setup-says c s f begins refuses is) ∙ e))
-      by false is = refl
-
-  pub comes-when : isSubmitted said ≡ true → Comes (s .list) (leave c s .list) (steppedBy c s .answer)
-  comes-when e = by (turns-of c s ok (no-setup isSubmitted refl (λ k. refl) e) (words said .1 e))
-    where
-      by : Turns (s .list) (leave c s .list) (steppedBy c s .answer) → Comes (s .list) (leave c s .list) (steppedBy c s .answer)
-      by (inl come) = come
-      by (inr (inl go)) = absurd (never (sym (words said .0 (go .word) .0) ∙ e))
-      by (inr (inr rest)) = absurd (never (sym (rest .submitted) ∙ e))
-
-  pub leaves-when : isLast said ≡ true → Leaves (s .list) (leave c s .list) (steppedBy c s .answer)
-  leaves-when e = by (turns-of c s ok (no-setup isLast refl (λ k. refl) e) (words said .0 e .1))
-    where
-      by : Turns (s .list) (leave c s .list) (steppedBy c s .answer) → Leaves (s .list) (leave c s .list) (steppedBy c s .answer)
-      by (inl come) = absurd (never (sym (words said .0 e .0) ∙ come .word))
-      by (inr (inl go)) = go
-      by (inr (inr rest)) = absurd (never (sym (rest .last) ∙ e))
-
-  -- any other word, of a call that is no setup and perhaps refused
-  pub rests-else : isSetup c ≡ false → isSubmitted said ≡ false → isLast said ≡ false → Rests (s .list) (leave c s .list) (steppedBy c s .answer)
-  rests-else plain first last = by (isRefused said) refl
-    where
-      taken-so : Turns (s .list) (leave c s .list) (steppedBy c s .answer) → Rests (s .list) (leave c s .list) (steppedBy c s .answer)
-      taken-so (inl come) = absurd (never (sym first ∙ come .word))
-      taken-so (inr (inl go)) = absurd (never (sym last ∙ go .word))
-      taken-so (inr (inr rest)) = rest
-
-      by : (t : Bool) → isRefused said ≡ t → Rests (s .list) (leave c s .list) (steppedBy c s .answer)
-      by true e =
-          subst (λ (t : State). Rests (s .list) (t .list) (steppedBy c s .answer)) (sym (refused-nothing c s e .0))
-          (record { submitted = first; last = last; named = λ h. absurd (let none = refused-names-none c s (ok .list) e in omega (arith, h, none)); all = λ i h. stays-self (getD (s .list) i blank) })
-      by false e = taken-so (turns-of c s ok plain e)
+use Rattle.port_once.proofs.Steps.{Step, refused, taken, step, taken-state, taken-entry, eight-done, setup-zeros}
+use Rattle.port_once.proofs.Histories.{OfKey, had, holds-on, holds-anew}
+use Rattle.port_once.proofs.Turns.{lawful-of}
 
 -- ---- free records
 
@@ -114,42 +44,83 @@ zeros-turn l m a turns zeros i h free = by turns (eqb i (a .slot)) refl
     by (inr (inl go)) false e = zeros-stay (go .others i h (eqb-false i (a .slot) e)) (zeros i h) free
     by (inr (inr rest)) t e = zeros-stay (rest .all i h) (zeros i h) free
 
+-- ---- no two requests share a key
+
+abbrev One : List Request → Type 0
+One l = (x : Key) (i j : ℕ) → i < 32 → j < 32 → HasKey (getD l i blank) x → HasKey (getD l j blank) x → i ≡ j
+
+one-turn : (l m : List Request) (a : Answer) → Turns l m a → One l → One m
+one-turn l m a turns one x i j below low p q = by turns (eqb i (a .slot)) refl (eqb j (a .slot)) refl
+  where
+    -- a request at the answer's slot has come, and no other had its key
+    alone : Comes l m a → (i j : ℕ) → j < 32 → i ≡ a .slot → (j ≡ a .slot → ⊥) → HasKey (getD m i blank) x → HasKey (getD m j blank) x → ⊥
+    alone come i j low at away p q =
+        let here = subst (λ (n : ℕ). HasKey (getD m n blank) x) at p in
+        let key = subst (λ (g : Head). OfKey g x) (come .head) (here .1) in
+        let was = had x (come .others j low away) q in
+        come .absent j low (was .0, (was .1 .0 ∙ sym (key .0), (was .1 .1 .0 ∙ sym (key .1 .0), was .1 .1 .1 ∙ sym (key .1 .1))))
+
+    -- none is left where one has left
+    empty : Leaves l m a → (i : ℕ) → i ≡ a .slot → HasKey (getD m i blank) x → ⊥
+    empty go i at p = p .0 (ap (λ (n : ℕ). getD m n blank .stage) at ∙ ap (λ (r : Request). r .stage) (go .zeros))
+
+    by : Turns l m a → (t : Bool) → eqb i (a .slot) ≡ t → (u : Bool) → eqb j (a .slot) ≡ u → i ≡ j
+    by (inr (inr rest)) t e u f = one x i j below low (had x (rest .all i below) p) (had x (rest .all j low) q)
+    by (inl come) true e true f = eqb-true i (a .slot) e ∙ sym (eqb-true j (a .slot) f)
+    by (inl come) true e false f = absurd (alone come i j low (eqb-true i (a .slot) e) (eqb-false j (a .slot) f) p q)
+    by (inl come) false e true f = absurd (alone come j i below (eqb-true j (a .slot) f) (eqb-false i (a .slot) e) q p)
+    by (inl come) false e false f = one x i j below low (had x (come .others i below (eqb-false i (a .slot) e)) p) (had x (come .others j low (eqb-false j (a .slot) f)) q)
+    by (inr (inl go)) true e u f = absurd (empty go i (eqb-true i (a .slot) e) p)
+    by (inr (inl go)) false e true f = absurd (empty go j (eqb-true j (a .slot) f) q)
+    by (inr (inl go)) false e false f = one x i j below low (had x (go .others i below (eqb-false i (a .slot) e)) p) (had x (go .others j low (eqb-false j (a .slot) f)) q)
+
 -- ---- any calls
 
 -- the history h tells the state s
 pub record Tells (h : List Entry) (s : State) : Type 0 where
-  pub lawful : Lawful s
+  pub list : length (s .list) ≡ 32
+  pub phys : length (s .port .phys) ≡ 8
   pub holds : (x : Key) → Holds x (standing x h) (s .list)
+  pub one : One (s .list)
   pub zeros : Zeros (s .list)
 
 -- behind a setup, which leaves all zeros
-pub tells-anew : (c : Call) (a : Answer) (h : List Entry) (s : State) → isSetup c ≡ true → Lawful s → ((i : ℕ) → i < 32 → getD (s .list) i blank ≡ blank) → Tells (record { call = c; answer = a } ∷ h) s
-tells-anew c a h s e ok zeros = record { lawful = ok; holds = λ x. holds-anew x c a (standing x h) (s .list) e zeros; zeros = λ i below _. zeros i below }
+pub tells-anew : (c : Call) (a : Answer) (h : List Entry) (s : State) → isSetup c ≡ true → length (s .list) ≡ 32 → length (s .port .phys) ≡ 8 → ((i : ℕ) → i < 32 → getD (s .list) i blank ≡ blank) → Tells (record { call = c; answer = a } ∷ h) s
+tells-anew c a h s e long eight zeros =
+    record {
+      list = long;
+      phys = eight;
+      holds = λ x. holds-anew x c a (standing x h) (s .list) e zeros;
+      one = λ x i j below low p q. absurd (p .0 (ap (λ (r : Request). r .stage) (zeros i below)));
+      zeros = λ i below _. zeros i below;
+    }
 
-module _ (keeps : KeepsRules) where
-  pub tells-after : (c : Call) (s : State) (h : List Entry) → Tells h s → Tells (entriesOf c s ++ h) (leave c s)
-  tells-after c s h t = by (step c s (t .lawful .list))
-    where
-      next : Lawful (leave c s)
-      next = lawful-after keeps c s (t .lawful)
+pub tells-after : (c : Call) (s : State) (h : List Entry) → Tells h s → Tells (entriesOf c s ++ h) (leave c s)
+tells-after c s h t = by (step c s (t .list))
+  where
+    by : Step c s → Tells (entriesOf c s ++ h) (leave c s)
+    by (refused off stays none) = subst (λ (es : List Entry). Tells (es ++ h) (leave c s)) (sym none) (subst (Tells h) (sym stays) t)
+    by (taken on is entered) = subst (λ (es : List Entry). Tells (es ++ h) (leave c s)) (sym entered) (subst (Tells (taken-entry c s ∷ h)) (sym is) (kind (isSetup c) refl))
+      where
+        m : List Request
+        m = leftOf (s .list) (doneOf c s)
 
-      by : Step c s → Tells (entriesOf c s ++ h) (leave c s)
-      by (refused off stays none) = subst (λ (es : List Entry). Tells (es ++ h) (leave c s)) (sym none) (subst (Tells h) (sym stays) t)
-      by (taken on is one) = subst (λ (es : List Entry). Tells (es ++ h) (leave c s)) (sym one) (subst (Tells (taken-entry c s ∷ h)) (sym is) (kind (isSetup c) refl))
-        where
-          ok : Lawful (taken-state c s)
-          ok = subst Lawful is next
+        long : length m ≡ 32
+        long = left-length (s .list) (doneOf c s) ∙ t .list
 
-          kind : (b : Bool) → isSetup c ≡ b → Tells (taken-entry c s ∷ h) (taken-state c s)
-          kind true e = tells-anew c (doneOf c s .answer) h (taken-state c s) e ok (setup-zeros c s (t .lawful .list) e on)
-          kind false e =
-              let turns = turned s (t .lawful) c e on in
-              record {
-                lawful = ok;
-                holds = λ x. holds-on (s .port) (s .list) (leftOf (s .list) (doneOf c s)) (doneOf c s .answer) (t .lawful .kept) x c e turns (standing x h) (t .holds x);
-                zeros = zeros-turn (s .list) (leftOf (s .list) (doneOf c s)) (doneOf c s .answer) turns (t .zeros);
-              }
+        kind : (b : Bool) → isSetup c ≡ b → Tells (taken-entry c s ∷ h) (taken-state c s)
+        kind true e = tells-anew c (doneOf c s .answer) h (taken-state c s) e long (eight-done c s (t .phys)) (setup-zeros c s (t .list) e on)
+        kind false e =
+            let ok = lawful-of c s (t .list) (t .phys) e on in
+            let turns = turned s ok c e on in
+            record {
+              list = long;
+              phys = eight-done c s (t .phys);
+              holds = λ x. holds-on (s .port) (s .list) m (doneOf c s .answer) (ok .kept) x c e turns (standing x h) (t .holds x);
+              one = one-turn (s .list) m (doneOf c s .answer) turns (t .one);
+              zeros = zeros-turn (s .list) m (doneOf c s .answer) turns (t .zeros);
+            }
 
-  pub tells-run : (cs : List Call) (s : State) (h : List Entry) → Tells h s → Tells (history cs s h) (run cs s)
-  tells-run [] s h t = t
-  tells-run (c ∷ cs) s h t = tells-run cs (leave c s) (entriesOf c s ++ h) (tells-after c s h t)
+pub tells-run : (cs : List Call) (s : State) (h : List Entry) → Tells h s → Tells (history cs s h) (run cs s)
+tells-run [] s h t = t
+tells-run (c ∷ cs) s h t = tells-run cs (leave c s) (entriesOf c s ++ h) (tells-after c s h t)

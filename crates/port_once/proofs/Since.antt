@@ -26,17 +26,17 @@ use Rattle.port_core.specs.declared.Word.the-variants.{Taken, Submitted, Nothin
 use Rattle.port.specs.Calls.{spread, leftOf}
 use Rattle.port.specs.Grounds.{HasKey}
 use Rattle.port.specs.History.{State, Call, doneOf, steppedBy, isRefused, isLast, leave, run, Entry, entriesOf, history}
-use Rattle.port.specs.declared.Stepped.{Stepped}
 use Rattle.port_once.specs.Standing.{isSetup, isSubmitted, isOf, accepts, speaks}
-use Rattle.port_once.specs.Turns.{keyed, Turns, Lawful, KeepsRules}
+use Rattle.port_once.specs.Turns.{keyed, Turns, Lawful}
 use Rattle.port_once.specs.Runs.{Run, now, past}
 use Rattle.port_once.specs.Marks.{isCancel, isAcknowledged, isGoing, isChoose, isClose, since, cancels, closes}
 use Rattle.port_once.proofs.Records.{at-slot, elsewhere}
 use Rattle.port_once.proofs.Cores.{turned}
 use Rattle.port_once.proofs.Marks.{Marks, marked-so}
-use Rattle.port_once.proofs.Steps.{Step, refused, taken, step, answers, taken-state, taken-entry, setup-zeros}
+use Rattle.port_once.proofs.Steps.{Step, refused, taken, step, taken-state, taken-entry, setup-zeros}
 use Rattle.port_once.proofs.Histories.{words, OfKey, of-says, one-of-key, had}
-use Rattle.port_once.proofs.Runs.{no-setup, leaves-when, rests-else, Tells, tells-after}
+use Rattle.port_once.proofs.Turns.{lawful-of, same-answer, taken-so, taken-lawful, plain-by, leaves-when, rests-else}
+use Rattle.port_once.proofs.Runs.{Tells, tells-after}
 use Rattle.port_once.proofs.Leaving.{first, begins-zeros, begins-so, tells}
 
 -- ---- a mark
@@ -160,9 +160,9 @@ module _ (k : Mark) (p : Port) (l : List Request) (c : Call) (d : Done) (len : l
 none-there : (k : Mark) (x : Key) (h : List Entry) (l : List Request) → ((i : ℕ) → i < 32 → getD l i blank ≡ blank) → Shows k x h l
 none-there k x h l zeros i below has = absurd (has .0 (ap (λ (r : Request). r .stage) (zeros i below)))
 
-module _ (keeps : KeepsRules) (k : Mark) where
+module _ (k : Mark) where
   shows-after : (c : Call) (s : State) (h : List Entry) → Tells h s → (x : Key) → Shows k x h (s .list) → Shows k x (entriesOf c s ++ h) (leave c s .list)
-  shows-after c s h t x before = by (step c s (t .lawful .list))
+  shows-after c s h t x before = by (step c s (t .list))
     where
       by : Step c s → Shows k x (entriesOf c s ++ h) (leave c s .list)
       by (refused off stays empty) = subst (λ (es : List Entry). Shows k x (es ++ h) (leave c s .list)) (sym empty) (subst (λ (u : State). Shows k x h (u .list)) (sym stays) before)
@@ -170,13 +170,14 @@ module _ (keeps : KeepsRules) (k : Mark) where
           subst (λ (es : List Entry). Shows k x (es ++ h) (leave c s .list)) (sym entered) (subst (λ (u : State). Shows k x (taken-entry c s ∷ h) (u .list)) (sym is) (plain-or-not (isSetup c) refl))
         where
           plain-or-not : (b : Bool) → isSetup c ≡ b → Shows k x (taken-entry c s ∷ h) (taken-state c s .list)
-          plain-or-not true e = none-there k x (taken-entry c s ∷ h) (taken-state c s .list) (setup-zeros c s (t .lawful .list) e on)
+          plain-or-not true e = none-there k x (taken-entry c s ∷ h) (taken-state c s .list) (setup-zeros c s (t .list) e on)
           plain-or-not false e =
-              shows-on k (s .port) (s .list) c (doneOf c s) (t .lawful .list) (t .lawful .kept) e (k .laws s (t .lawful) c e on) (turned s (t .lawful) c e on) x h before
+              let ok = lawful-of c s (t .list) (t .phys) e on in
+              shows-on k (s .port) (s .list) c (doneOf c s) (t .list) (ok .kept) e (k .laws s ok c e on) (turned s ok c e on) x h before
 
   shows-run : (cs : List Call) (s : State) (h : List Entry) → Tells h s → (x : Key) → Shows k x h (s .list) → Shows k x (history cs s h) (run cs s .list)
   shows-run [] s h t x before = before
-  shows-run (c ∷ cs) s h t x before = shows-run cs (leave c s) (entriesOf c s ++ h) (tells-after keeps c s h t) x (shows-after c s h t x before)
+  shows-run (c ∷ cs) s h t x before = shows-run cs (leave c s) (entriesOf c s ++ h) (tells-after c s h t) x (shows-after c s h t x before)
 
   -- from a setup on
   shows : (r : Run) (x : Key) → Shows k x (past r) (now r .list)
@@ -240,7 +241,7 @@ close ConnectionLost e = absurd (never e)
 close (Status byte) e = absurd (never e)
 close (Refused k) e = absurd (never e)
 
-module _ (keeps : KeepsRules) (r : Run) (c : Call) where
+module _ (r : Run) (c : Call) where
   abbrev s : State
   s = now r
 
@@ -250,34 +251,32 @@ module _ (keeps : KeepsRules) (r : Run) (c : Call) where
   abbrev known : Key
   known = keyed (said .frame .head)
 
-  ok : Lawful s
-  ok = tells keeps r .lawful
-
-  same-answer : said ≡ doneOf c s .answer
-  same-answer = ap (λ (t : Stepped). t .answer) (answers c s (ok .list))
+  eight : length (s .port .phys) ≡ 8
+  eight = tells r .phys
 
   marks : isSetup c ≡ false → isRefused (said .word) ≡ false → Marks (s .list) (isCancel c) (isChoose c) (doneOf c s)
-  marks plain on = marked-so s ok c plain (ap (λ (a : Answer). isRefused (a .word)) (sym same-answer) ∙ on)
+  marks plain on = marked-so s (taken-lawful c s eight plain on) c plain (taken-so c s eight on)
 
   -- the mark of the request that the answer names
   named : (k : Mark) → said .slot < 32 → (Free (getD (s .list) (said .slot) blank) → ⊥) → getD (s .list) (said .slot) blank .head ≡ said .frame .head → eqb (k .of (getD (s .list) (said .slot) blank)) 1 ≡ since (k .kind) known (past r)
-  named k below present head = shows keeps k r known (said .slot) below (present, (ap (λ (h : Head). h .destination) head, (ap (λ (h : Head). h .protocol) head, ap (λ (h : Head). h .tag) head)))
+  named k below present head = shows k r known (said .slot) below (present, (ap (λ (h : Head). h .destination) head, (ap (λ (h : Head). h .protocol) head, ap (λ (h : Head). h .tag) head)))
 
   -- a last word is Cancel Acknowledged exactly if this call is a Cancel or one was taken since the submit
   pub acknowledged : isLast (said .word) ≡ true → isAcknowledged (said .word) ≡ isCancel c || since cancels known (past r)
   acknowledged e =
-      let go = leaves-when c s ok e in
-      subst (λ (a : Answer). isLast (a .word) ≡ true → isAcknowledged (a .word) ≡ isCancel c || isCancelled (getD (s .list) (a .slot) blank)) (sym same-answer)
-      (marks (no-setup c s ok isLast refl (λ k. refl) e) (words (said .word) .0 e .1) .last) e
+      let go = leaves-when c s eight e in
+      let on = words (said .word) .0 e .1 in
+      subst (λ (a : Answer). isLast (a .word) ≡ true → isAcknowledged (a .word) ≡ isCancel c || isCancelled (getD (s .list) (a .slot) blank)) (sym (same-answer c s eight on))
+      (marks (plain-by c s eight isLast refl (λ k. refl) on e) on .last) e
       ∙ ap (λ (t : Bool). isCancel c || t) (named cancelling (go .slot) (go .present) (go .head))
 
   -- once a Cancel was taken neither its frame nor an open for it goes
   pub withheld : isGoing (said .word) ≡ true → since cancels known (past r) ≡ false
   withheld e =
       let is = going (said .word) e in
-      let plain = no-setup c s ok isGoing refl (λ k. refl) e in
-      let off = subst (λ (a : Answer). isGoing (a .word) ≡ true → (a .slot < 32) × (isCancelled (getD (s .list) (a .slot) blank) ≡ false)) (sym same-answer) (marks plain (is .1) .goes) e in
-      let there = rests-else c s ok plain (is .0 .0) (is .0 .1) .named (off .0) in
+      let plain = plain-by c s eight isGoing refl (λ k. refl) (is .1) e in
+      let off = subst (λ (a : Answer). isGoing (a .word) ≡ true → (a .slot < 32) × (isCancelled (getD (s .list) (a .slot) blank) ≡ false)) (sym (same-answer c s eight (is .1))) (marks plain (is .1) .goes) e in
+      let there = rests-else c s eight plain (is .0 .0) (is .0 .1) .named (off .0) in
       sym (named cancelling (off .0) (there .0) (there .1)) ∙ off .1
 
   -- choose closes a phy for a request once
@@ -285,7 +284,7 @@ module _ (keeps : KeepsRules) (r : Run) (c : Call) where
   closed-once e =
       let word = and-right (isChoose c) (isClose (said .word)) e in
       let is = close (said .word) word in
-      let plain = no-setup c s ok isClose refl (λ k. refl) word in
-      let off = subst (λ (a : Answer). isChoose c && isClose (a .word) ≡ true → (a .slot < 32) × (getD (s .list) (a .slot) blank .closed ≡ 0)) (sym same-answer) (marks plain (is .1) .once) e in
-      let there = rests-else c s ok plain (is .0 .0) (is .0 .1) .named (off .0) in
+      let plain = plain-by c s eight isClose refl (λ k. refl) (is .1) word in
+      let off = subst (λ (a : Answer). isChoose c && isClose (a .word) ≡ true → (a .slot < 32) × (getD (s .list) (a .slot) blank .closed ≡ 0)) (sym (same-answer c s eight (is .1))) (marks plain (is .1) .once) e in
+      let there = rests-else c s eight plain (is .0 .0) (is .0 .1) .named (off .0) in
       sym (named closing (off .0) (there .0) (there .1)) ∙ ap (λ (n : ℕ). eqb n 1) (off .1)

@@ -10,13 +10,13 @@ use borrow.Author.Tests.{eqb-true, eq-eqb}
 use Rattle.laws.proofs.Bools.{never}
 use Rattle.refusals.specs.Causes.{_when_}
 use Rattle.refusals.specs.declared.Refusal.{Refusal}
-use Rattle.refusals.proofs.Causes.{by-causes, unrefused}
+use Rattle.refusals.proofs.Causes.{unrefused}
 use Rattle.port_parts.specs.Parts.{off, blank}
 use Rattle.port_parts.specs.declared.Request.{Request}
 use Rattle.port_rules.specs.Rules.{inRange}
 use Rattle.port_rules.specs.Kept.{InRange}
 use Rattle.port_rules.proofs.Facts.{range-says}
-use Rattle.port_core.specs.Answers.{fresh, noPort, refusedBy}
+use Rattle.port_core.specs.Answers.{nameless, fresh, noPort, refusedBy}
 use Rattle.port_core.specs.Calls.{bare, setupOf}
 use Rattle.port_core.specs.declared.Answer.{Answer}
 use Rattle.port_core.specs.declared.Done.{Done}
@@ -27,9 +27,12 @@ use Rattle.port.specs.History.{State, Call, setup, submit, cancel, choose, open
 use Rattle.port.specs.declared.Stepped.{Stepped}
 use Rattle.port.proofs.Begins.{left-length, setup-kept}
 use Rattle.port.proofs.Promised.{refused-leaves}
+use Rattle.port_kept.proofs.Leaves.{leave-length}
+use Rattle.port_kept.proofs.Runs.{kept-sound}
 use Rattle.port_once.specs.Standing.{isSetup}
-use Rattle.port_once.specs.Turns.{Lawful, KeepsRules}
+use Rattle.port_once.specs.Turns.{Lawful}
 use Rattle.port_once.proofs.Records.{cleared-at}
+use Rattle.port_once.proofs.Passes.{takenAt, by-call, by-taken}
 use Rattle.port_once.proofs.Verdicts.{Verdict, stopped, passed, verdict}
 
 -- ---- refused or taken
@@ -66,7 +69,7 @@ module _ (c : Call) (s : State) where
 
 -- ---- what follows from a call's verdict
 
-eight-done : (c : Call) (s : State) → length (s .port .phys) ≡ 8 → length (doneOf c s .port .phys) ≡ 8
+pub eight-done : (c : Call) (s : State) → length (s .port .phys) ≡ 8 → length (doneOf c s .port .phys) ≡ 8
 eight-done c s e = by (verdict s c)
   where
     by : Verdict s (doneOf c s) → length (doneOf c s .port .phys) ≡ 8
@@ -81,16 +84,41 @@ refused-stays c s e = by (verdict s c)
     by (stopped q k is eight) = ap (leftOf (s .list)) is ∙ refused-leaves (s .list) q k
     by (passed w eight) = absurd (never (sym w ∙ e))
 
--- and names no slot
-pub refused-names-none : (c : Call) (s : State) → length (s .list) ≡ 32 → isRefused (steppedBy c s .answer .word) ≡ true → steppedBy c s .answer .slot ≡ 32
-refused-names-none c s len e = same (λ (a : Answer). a .slot) ∙ by (verdict s c)
-  where
-    same : {A : Type 0} (f : Answer → A) → f (steppedBy c s .answer) ≡ f (doneOf c s .answer)
-    same f = ap (λ (r : Stepped). f (r .answer)) (answers c s len)
+-- a list of another length is refused
+short-says : (c : Call) (s : State) → shortOf c s .answer ≡ nameless (Refused Refusal.Length)
+short-says (setup count loss) s = refl
+short-says (submit x) s = refl
+short-says (cancel x) s = refl
+short-says (choose x) s = refl
+short-says (opened x) s = refl
+short-says (openFailed x) s = refl
+short-says (frameStatus x) s = refl
+short-says (closed x) s = refl
+short-says (enable x) s = refl
+short-says (disable x) s = refl
 
-    by : Verdict s (doneOf c s) → doneOf c s .answer .slot ≡ 32
-    by (stopped q k is eight) = ap (λ (d : Done). d .answer .slot) is
-    by (passed w eight) = absurd (never (sym w ∙ sym (same (λ (a : Answer). isRefused (a .word))) ∙ e))
+pub taken-long : (c : Call) (s : State) → isRefused (steppedBy c s .answer .word) ≡ false → length (s .list) ≡ 32
+taken-long c s on = by (eqb (length (s .list)) 32) refl
+  where
+    by : (t : Bool) → eqb (length (s .list)) 32 ≡ t → length (s .list) ≡ 32
+    by true e = eqb-true (length (s .list)) 32 e
+    by false e = absurd (never (sym on ∙ ap (λ (t : Bool). isRefused (cond t (steppedOf (doneOf c s)) (shortOf c s) .answer .word)) e ∙ ap (λ (a : Answer). isRefused (a .word)) (short-says c s)))
+
+-- a refusal names no slot
+pub refused-names-none : (c : Call) (s : State) → isRefused (steppedBy c s .answer .word) ≡ true → steppedBy c s .answer .slot ≡ 32
+refused-names-none c s off = by (eqb (length (s .list)) 32) refl
+  where
+    long : isRefused (doneOf c s .answer .word) ≡ true → Verdict s (doneOf c s) → doneOf c s .answer .slot ≡ 32
+    long e (stopped q k is eight) = ap (λ (d : Done). d .answer .slot) is
+    long e (passed w eight) = absurd (never (sym w ∙ e))
+
+    -- the answer by the length of the list
+    at : Bool → Stepped
+    at t = cond t (steppedOf (doneOf c s)) (shortOf c s)
+
+    by : (t : Bool) → eqb (length (s .list)) 32 ≡ t → steppedBy c s .answer .slot ≡ 32
+    by true e = ap (λ (t : Bool). at t .answer .slot) e ∙ long (ap (λ (t : Bool). isRefused (at t .answer .word)) (sym e) ∙ off) (verdict s c)
+    by false e = ap (λ (t : Bool). at t .answer .slot) e ∙ ap (λ (a : Answer). a .slot) (short-says c s)
 
 -- ---- what the promise admits is what the history says
 
@@ -108,34 +136,12 @@ promised c s r after met = (met .0, met .1 ∙ by (eqb (length (s .list)) 32) re
     by true e = long (eqb-true (length (s .list)) 32 e)
     by false e =
         (λ i. cond (e i) (leftOf (s .list) (doneOf c s)) (s .list))
-        ∙ sym (ap (λ (t : State). t .list) ((λ i. cond (isRefused (cond (e i) (steppedOf (doneOf c s)) (shortOf c s) .answer .word)) s (record { port = cond (e i) (steppedOf (doneOf c s)) (shortOf c s) .port; list = cond (e i) (leftOf (s .list) (doneOf c s)) (s .list) })) ∙ ap (λ (t : Bool). cond t s (record { port = shortOf c s .port; list = s .list })) (short-refused c)))
-      where
-        short-refused : (c : Call) → isRefused (shortOf c s .answer .word) ≡ true
-        short-refused (setup count loss) = refl
-        short-refused (submit x) = refl
-        short-refused (cancel x) = refl
-        short-refused (choose x) = refl
-        short-refused (opened x) = refl
-        short-refused (openFailed x) = refl
-        short-refused (frameStatus x) = refl
-        short-refused (closed x) = refl
-        short-refused (enable x) = refl
-        short-refused (disable x) = refl
+        ∙ sym (ap (λ (t : State). t .list) ((λ i. cond (isRefused (cond (e i) (steppedOf (doneOf c s)) (shortOf c s) .answer .word)) s (record { port = cond (e i) (steppedOf (doneOf c s)) (shortOf c s) .port; list = cond (e i) (leftOf (s .list) (doneOf c s)) (s .list) })) ∙ ap (λ (t : Bool). cond t s (record { port = shortOf c s .port; list = s .list })) (ap (λ (a : Answer). isRefused (a .word)) (short-says c s))))
 
 -- ---- a lawful state stays one
 
-pub lawful-after : KeepsRules → (c : Call) (s : State) → Lawful s → Lawful (leave c s)
-lawful-after keeps c s ok = record { list = sizes .0; phys = sizes .1; kept = keeps c s (ok .list) (ok .phys) (ok .kept) }
-  where
-    Sizes : State → Type 0
-    Sizes t = (length (t .list) ≡ 32) × (length (t .port .phys) ≡ 8)
-
-    by : Step c s → Sizes (leave c s)
-    by (refused e same none) = subst Sizes (sym same) (ok .list, ok .phys)
-    by (taken e is one) = subst Sizes (sym is) (left-length (s .list) (doneOf c s) ∙ ok .list, eight-done c s (ok .phys))
-
-    sizes : Sizes (leave c s)
-    sizes = by (step c s (ok .list))
+pub lawful-after : (c : Call) (s : State) → Lawful s → Lawful (leave c s)
+lawful-after c s ok = let after = kept-sound c s (ok .phys) (ok .kept) in record { list = leave-length c s ∙ ok .list; phys = after .0; kept = after .1 }
 
 -- ---- setup
 
@@ -148,11 +154,9 @@ unfolding doneOf setupOf
 setup-is count loss s range =
     sym (unrefused (refusedBy noPort) (begun count loss) ((Refusal.Rules when not (inRange count loss)) ∷ []) (ap not (range-says count loss .1 range), tt))
 
-pub setup-clears : (count loss : ℕ) (s : State) → isRefused (doneOf (setup count loss) s .answer .word) ≡ false → doneOf (setup count loss) s .cleared ≡ true
-unfolding doneOf setupOf
-setup-clears count loss s =
-    by-causes (λ (d : Done). isRefused (d .answer .word) ≡ false → d .cleared ≡ true) (refusedBy noPort) (λ k e. absurd (never (sym e))) ((Refusal.Rules when not (inRange count loss)) ∷ [])
-    (begun count loss) (λ _ _. refl)
+setup-clears : (count loss : ℕ) (s : State) → isRefused (doneOf (setup count loss) s .answer .word) ≡ false → doneOf (setup count loss) s .cleared ≡ true
+unfolding takenAt
+setup-clears count loss s = by-taken (λ (d : Done). d .cleared ≡ true) (setup count loss) s (λ _. refl)
 
 -- what holds of every setup holds of a call that is one
 by-setup : (P : Call → Type 0) → ((count loss : ℕ) → P (setup count loss)) → (c : Call) → isSetup c ≡ true → P c
@@ -175,10 +179,8 @@ setup-zeros c s len =
 
 -- a setup's word is Taken or a refusal
 pub setup-says : (c : Call) (s : State) (f : Word → Bool) → f Taken ≡ false → ((k : Refusal) → f (Refused k) ≡ false) → isSetup c ≡ true → f (doneOf c s .answer .word) ≡ false
-unfolding doneOf setupOf
-setup-says c s f a b =
-    by-setup (λ (c : Call). f (doneOf c s .answer .word) ≡ false)
-    (λ count loss. by-causes (λ (d : Done). f (d .answer .word) ≡ false) (refusedBy noPort) b ((Refusal.Rules when not (inRange count loss)) ∷ []) (begun count loss) (λ _. a)) c
+unfolding takenAt
+setup-says c s f a b = by-setup (λ (c : Call). f (doneOf c s .answer .word) ≡ false) (λ count loss. by-call (λ (d : Done). f (d .answer .word) ≡ false) (setup count loss) s b (λ _. a)) c
 
 -- the first setup, in range, is taken, whatever the list held
 pub begins : (count loss : ℕ) (s : State) → length (s .list) ≡ 32 → InRange count loss

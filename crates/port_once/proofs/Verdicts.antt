@@ -2,30 +2,30 @@
 -- at most one of them. Assumes nothing.
 use Prim.Native.Nat.{ℕ}
 use mathlib.Core.Path.{_≡_, refl, ap, _∙_}
-use mathlib.Core.Bool.{Bool, true, false, not, cond, _&&_}
-use mathlib.Core.List.{List, [], _∷_}
+use mathlib.Core.Bool.{Bool, false, not, cond, _&&_}
+use mathlib.Core.List.{List}
 use lib.Dec.{eqb}
 use lib.ListN.{length, getD, set, length-set, length-replicate}
 use Rattle.laws.proofs.Bools.{by-test}
-use Rattle.refusals.specs.Causes.{Cause, _when_, refuse}
 use Rattle.refusals.specs.declared.Refusal.{Refusal}
-use Rattle.refusals.proofs.Causes.{by-causes}
-use Rattle.port_parts.specs.Parts.{off, noPhy, blank, isSsp, isWaiting, isOpening, isDisabled, isSending}
+use Rattle.port_parts.specs.Parts.{off, noPhy, blank, isSsp, isWaiting, isOpening, isSending}
 use Rattle.port_parts.specs.Reasons.{reasonOf, isRetried}
 use Rattle.port_parts.specs.Timer.{isLost}
 use Rattle.port_parts.specs.declared.Phy.{Phy}
 use Rattle.port_parts.specs.declared.Pick.{Pick}
 use Rattle.port_parts.specs.declared.Port.{Port}
 use Rattle.port_parts.specs.declared.Request.{Request}
-use Rattle.port_rules.specs.Rules.{inRange, rules, names, hasFrameOut}
-use Rattle.port_core.specs.Answers.{later, withPhy, fresh, noPort, idlePhy, openingPhy, joinedPhy, stagedPhy, unchanged, told, refusedBy}
-use Rattle.port_core.specs.Calls.{phyAt, marked, isCancelled, isJoined, timerAfter, closedPhy, bare, submitted, cancelled, sent, opening, closing, idle, chosen, connected, failed, framed, closedDone, disabledDone, submitCauses, cancelCauses, chooseCauses, phyCauses, failedCauses, setupOf, submitOf, cancelOf, chooseOf, openedOf, openFailedOf, frameStatusOf, closedOf, enableOf, disableOf}
-use Rattle.port_core.specs.Finds.{roomOf, keyOf}
+use Rattle.port_rules.specs.Rules.{names}
+use Rattle.port_core.specs.Answers.{idlePhy, openingPhy, joinedPhy, stagedPhy, refusedBy}
+use Rattle.port_core.specs.Calls.{phyAt, isCancelled, timerAfter, closedPhy, cancelled, sent, opening, closing, idle, chosen, connected, failed, framed, closedDone, disabledDone}
+use Rattle.port_core.specs.Finds.{keyOf}
 use Rattle.port_core.specs.declared.Done.{Done}
 use Rattle.port_core.specs.declared.Word.{Word}
-use Rattle.port_core.specs.declared.Word.the-variants.{Taken, Submitted, Send, Close, StopArb, Retried, Waiting, CancelAcknowledged, NexusLoss, ConnectionLost, Status}
+use Rattle.port_core.specs.declared.Word.the-variants.{Send, Close, StopArb, Retried, Waiting, CancelAcknowledged, NexusLoss, ConnectionLost, Status}
 use Rattle.port.specs.Calls.{onPhy, pickAt}
 use Rattle.port.specs.History.{State, Call, setup, submit, cancel, choose, opened, openFailed, frameStatus, closed, enable, disable, doneOf, isRefused}
+use Rattle.port_once.specs.Standing.{isSetup}
+use Rattle.port_once.proofs.Passes.{submittedTo, endedBy, stoppedBy, enabledBy, takenAt, portAt, by-call}
 
 -- a refusal of the port q, or an answer that is none; the phys stay eight
 pub data Verdict (s : State) (d : Done) : Type 0 where
@@ -46,9 +46,6 @@ module _ (s : State) where
   abbrev p : Port
   p = s .port
 
-  by-verdict : (cs : List Cause) (d : Done) → Verdict s d → Verdict s (refuse (refusedBy p) cs d)
-  by-verdict cs d goes = by-causes (Verdict s) (refusedBy p) (λ k. stopped p k refl (λ e. e)) cs d (λ _. goes)
-
   -- no phy changes
   same-phys : (d : Done) → Unrefused (d .answer .word) → d .port .phys ≡ p .phys → Verdict s d
   same-phys d w is = passed w (λ e. ap length is ∙ e)
@@ -60,11 +57,8 @@ module _ (s : State) where
   cancelled-verdict : (r : Request) (k now : ℕ) → Verdict s (cancelled p r k now)
   unfolding cancelled
   cancelled-verdict r k now =
-      by-test (Verdict s) (isWaiting r) (λ _. same-phys (told (later p now) CancelAcknowledged k 8 r blank unchanged) refl refl)
-      (λ _. one-phy (told (withPhy p (r .phy) f now) (cond (isOpening (phyAt p (r .phy))) StopArb Close) k (r .phy) r (marked r 1 (r .closed)) unchanged) (r .phy) f (or (isOpening (phyAt p (r .phy))) StopArb Close refl refl) refl)
-    where
-      f : Phy
-      f = closedPhy (phyAt p (r .phy))
+      by-test (Verdict s) (isWaiting r) (λ _. same-phys (endedBy p r k now) refl refl)
+      (λ _. one-phy (stoppedBy p r k now (isOpening (phyAt p (r .phy)))) (r .phy) (closedPhy (phyAt p (r .phy))) (or (isOpening (phyAt p (r .phy))) StopArb Close refl refl) refl)
 
   chosen-verdict : (r : Request) (b : Pick) (now : ℕ) → Verdict s (chosen p r b now)
   unfolding chosen
@@ -74,48 +68,37 @@ module _ (s : State) where
       (λ _. by-test (Verdict s) (eqb (b .step) 3) (λ _. one-phy (closing p r b now) (b .phy) (stagedPhy 5 32 (phyAt p (b .phy))) refl refl)
       (λ _. same-phys (idle p now) refl refl)))
 
-  phy-verdict : (k now : ℕ) (unfit : Bool) (d : Done) (f : Phy) → Unrefused (d .answer .word) → d .port .phys ≡ set (p .phys) k f → Verdict s (refuse (refusedBy p) (phyCauses p (rules p l) k now unfit) d)
-  phy-verdict k now unfit d f w is = by-verdict (phyCauses p (rules p l) k now unfit) d (one-phy d k f w is)
-
-  pub verdict : (c : Call) → Verdict s (doneOf c s)
-  unfolding doneOf setupOf submitOf cancelOf chooseOf openedOf openFailedOf frameStatusOf closedOf enableOf disableOf
-  verdict (setup count loss) =
-      by-causes (Verdict s) (refusedBy noPort) (λ k. stopped noPort k refl (λ _. length-replicate 8 noPhy)) ((Refusal.Rules when not (inRange count loss)) ∷ []) (bare (fresh count loss) Taken true)
-      (λ _. passed refl (λ _. length-replicate 8 off))
-  verdict (submit x) =
-      let entry = submitted (roomOf l (x .head)) x in
-      let d = told (later p (x .now)) Submitted (roomOf l (x .head) .free) 8 entry entry unchanged in
-      by-verdict (submitCauses p (rules p l) (roomOf l (x .head)) x) d (same-phys d refl refl)
-  verdict (cancel x) =
-      let r = getD l (keyOf l (x .key)) blank in
-      by-verdict (cancelCauses p r (rules p l) (keyOf l (x .key)) x) (cancelled p r (keyOf l (x .key)) (x .now)) (cancelled-verdict r (keyOf l (x .key)) (x .now))
-  verdict (choose x) =
-      let b = pickAt l p (x .now) in
-      by-verdict (chooseCauses p (rules p l) (x .now)) (chosen p (getD l (b .slot) blank) b (x .now)) (chosen-verdict (getD l (b .slot) blank) b (x .now))
-  verdict (opened x) =
+  goes : (c : Call) → Verdict s (takenAt c s)
+  unfolding takenAt
+  goes (setup count loss) = passed refl (λ _. length-replicate 8 off)
+  goes (submit x) = same-phys (submittedTo s x) refl refl
+  goes (cancel x) = cancelled-verdict (getD l (keyOf l (x .key)) blank) (keyOf l (x .key)) (x .now)
+  goes (choose x) = chosen-verdict (getD l (pickAt l p (x .now) .slot) blank) (pickAt l p (x .now)) (x .now)
+  goes (opened x) =
       let f = phyAt p (x .phy) in
       let r = onPhy l p (x .phy) in
-      phy-verdict (x .phy) (x .now) (not (isOpening f)) (connected p f r x) (joinedPhy (cond (isCancelled r) 5 4) (f .slot) (r .head)) (or (isCancelled r) Close Send refl refl) refl
-  verdict (openFailed x) =
-      let f = phyAt p (x .phy) in
+      one-phy (connected p f r x) (x .phy) (joinedPhy (cond (isCancelled r) 5 4) (f .slot) (r .head)) (or (isCancelled r) Close Send refl refl) refl
+  goes (openFailed x) =
       let r = onPhy l p (x .phy) in
       let why = reasonOf (x .why) in
-      let d = failed p f r why (x .phy) (x .now) in
-      by-verdict (failedCauses p (rules p l) x (not (isOpening f))) d
-      (one-phy d (x .phy) idlePhy
-      (by-test Unrefused (isCancelled r) (λ _. refl) (λ _. by-test Unrefused (not (isRetried why)) (λ _. refl) (λ _. or (isSsp (r .head) && isLost (timerAfter r why (x .now)) (p .loss) (x .now)) NexusLoss Retried refl refl))) refl)
-  verdict (frameStatus x) =
+      one-phy (failed p (phyAt p (x .phy)) r why (x .phy) (x .now)) (x .phy) idlePhy
+      (by-test Unrefused (isCancelled r) (λ _. refl) (λ _. by-test Unrefused (not (isRetried why)) (λ _. refl) (λ _. or (isSsp (r .head) && isLost (timerAfter r why (x .now)) (p .loss) (x .now)) NexusLoss Retried refl refl))) refl
+  goes (frameStatus x) =
       let f = phyAt p (x .phy) in
       let r = onPhy l p (x .phy) in
-      phy-verdict (x .phy) (x .now) (not (hasFrameOut f)) (framed p f r x) (stagedPhy (cond (isSending f) 3 5) 32 f) (or (isCancelled r) CancelAcknowledged (Status (x .status)) refl refl) refl
-  verdict (closed x) =
+      one-phy (framed p f r x) (x .phy) (stagedPhy (cond (isSending f) 3 5) 32 f) (or (isCancelled r) CancelAcknowledged (Status (x .status)) refl refl) refl
+  goes (closed x) =
       let f = phyAt p (x .phy) in
       let r = onPhy l p (x .phy) in
-      phy-verdict (x .phy) (x .now) (not (isJoined f)) (closedDone p f r x) idlePhy (by-test Unrefused (names f) (λ _. or (isCancelled r) CancelAcknowledged ConnectionLost refl refl) (λ _. refl)) refl
-  verdict (enable x) =
-      let d = told (withPhy p (x .phy) idlePhy (x .now)) Taken 32 (x .phy) (onPhy l p (x .phy)) blank unchanged in
-      phy-verdict (x .phy) (x .now) (not (isDisabled (phyAt p (x .phy)))) d idlePhy refl refl
-  verdict (disable x) =
+      one-phy (closedDone p f r x) (x .phy) idlePhy (by-test Unrefused (names f) (λ _. or (isCancelled r) CancelAcknowledged ConnectionLost refl refl) (λ _. refl)) refl
+  goes (enable x) = one-phy (enabledBy p (onPhy l p (x .phy)) x) (x .phy) idlePhy refl refl
+  goes (disable x) =
       let f = phyAt p (x .phy) in
       let r = onPhy l p (x .phy) in
-      phy-verdict (x .phy) (x .now) (isDisabled f) (disabledDone p f r x) off (by-test Unrefused (names f) (λ _. or (isCancelled r) CancelAcknowledged Waiting refl refl) (λ _. refl)) refl
+      one-phy (disabledDone p f r x) (x .phy) off (by-test Unrefused (names f) (λ _. or (isCancelled r) CancelAcknowledged Waiting refl refl) (λ _. refl)) refl
+
+  refuses : (c : Call) → length (p .phys) ≡ 8 → length (portAt c s .phys) ≡ 8
+  refuses c e = by-test (λ (q : Port). length (q .phys) ≡ 8) (isSetup c) (λ _. length-replicate 8 noPhy) (λ _. e)
+
+  pub verdict : (c : Call) → Verdict s (doneOf c s)
+  verdict c = by-call (Verdict s) c s (λ k. stopped (portAt c s) k refl (refuses c)) (λ _. goes c)

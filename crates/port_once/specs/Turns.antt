@@ -69,10 +69,6 @@ pub record Lawful (s : State) : Type 0 where
   pub phys : length (s .port .phys) ≡ 8
   pub kept : Kept (s .port) (s .list)
 
--- every call keeps the rules
-abbrev pub KeepsRules : Type 0
-KeepsRules = (c : Call) (s : State) → length (s .list) ≡ 32 → length (s .port .phys) ≡ 8 → Kept (s .port) (s .list) → Kept (leave c s .port) (leave c s .list)
-
 -- 01 PORT.11
 -- every free record is all zeros
 abbrev pub Zeros : List Request → Type 0
