@@ -1,5 +1,6 @@
 -- The walks of the lent list, each proved once, and what the scans find.
 pub mod Arg
+pub mod Callees
 pub mod Rec
 pub mod Rows
 mod Shared

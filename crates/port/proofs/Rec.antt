@@ -1,6 +1,6 @@
 -- A Request as an element of a slice: its row, its machine value, and the laws that a walk cites, under short names; and that a place's offset fits.
 -- Assumes nothing.
-use mathlib.Core.Path.{_≡_}
+use mathlib.Core.Path.{_≡_, refl}
 use Prim.Native.Nat.{ℕ, _*_, _<_, _^_}
 use native.Mathlib.Omega.{arith}
 use native.Mathlib.Nat.{mul-le-mul-right, le-of-lt, lt-of-le-of-lt}
@@ -15,6 +15,7 @@ use denote.Laws.{Is, Tells, Makes, Lawful, Copy}
 use denote.Slice.{Room}
 use denote.Struct.Laws as LL
 use Rattle.port_parts.specs.declared.Request.{Request}
+use Rattle.port.proofs.Arg.{Arg}
 use Rattle.port_parts.proofs.Request as T
 use Rattle.port_parts.proofs.Request.Laws as T′
 
@@ -39,6 +40,9 @@ module _ {M : Type 1} (𝓤 : URA M) (H : Heap 𝓤) (A : Atoms 𝓤) (W : Given
 
   pub makes : Makes 𝓤 H A R (Is R)
   makes = LL.makes T.the-type T′.the-plain 𝓤 H A
+
+abbrev pub request : Arg
+request = record { X = R; val = mach; tells = tells; makes = λ 𝓤 H A W. makes 𝓤 H A W; last = λ x. tt; silent = λ 𝓤 H A W κs x f. refl }
 
 -- an element's size in bytes, as the MIR has it
 abbrev pub stride : ℕ

@@ -1,4 +1,5 @@
 -- `port::closed` meets its contract: `Call.antt`'s law, at `by_phy` and `closed_core`. Assumes nothing.
+use package.mir.Syntax.{w64}
 use package.mir.Table.{spell}
 use contract.Running.{givenOf, tables, tablesOf}
 use denote.Memory.{pointee}
@@ -8,9 +9,11 @@ use Rattle.port.specs.Calls.{short, closedCall}
 use Rattle.port.specs.Scans.{surveyed, namedStart, namedJoin, confirmedAsk, confirmedSlot, closedCore}
 use Rattle.port_core.specs.Calls.{closedOf}
 use Rattle.port.proofs.Told.{named-is}
-use Rattle.port.proofs.Rec.{R, lawful}
-use Rattle.port.proofs.Rows.{ConfirmedR, confirmed, confirmed-lawful, NamedR, named, named-lawful, PortR, port, port-lawful, SoughtR, sought, sought-lawful, DoneR, done-lawful, SteppedR, stepped-lawful}
-use Rattle.port.proofs.Call.{refuse, ask, scan, slot, core, Load, Apply, call-meets}
+use Rattle.port.proofs.Arg.{number}
+use Rattle.port.proofs.Rec.{R, request, lawful}
+use Rattle.port.proofs.Rows.{ConfirmedR, confirmed, confirmed-lawful, NamedR, named, named-lawful, PortR, port, port-lawful, SoughtR, sought, sought-lawful, DoneR, done, done-lawful, SteppedR, stepped, stepped-lawful}
+use Rattle.port.proofs.Callees.{gives1, gives2, gives4, looks}
+use Rattle.port.proofs.Call.{recordAt, Apply, call-meets}
 use Rattle.port.proofs.short.Symbol as refuse-def
 use Rattle.port.proofs.short.Met as refuse-thm
 use Rattle.port.proofs.confirmed_ask.Symbol as ask-def
@@ -41,10 +44,10 @@ closed-spec 𝓤 H 𝓜 𝓖 𝓡 =
     (spell mir.table (pointee (R .written))) (spell mir.table (pointee (DoneR .written))) (spell mir.table (pointee (SteppedR .written))) (spell mir.table (pointee (PortR .written))) (spell mir.table (pointee (ConfirmedR .written))) (spell mir.table (pointee (SoughtR .written))) (spell mir.table (pointee (NamedR .written))) refuse-def.name ask-def.name scan-def.name slot-def.name core-def.name
     (λ c u g. port-lawful 𝓤 H (𝓖 .A) W .typed c _ g .0) (λ c u g. confirmed-lawful 𝓤 H (𝓖 .A) W .typed c _ g .0) (λ c u g. sought-lawful 𝓤 H (𝓖 .A) W .typed c _ g .0) (λ c u g. named-lawful 𝓤 H (𝓖 .A) W .typed c _ g .0) (λ c u g. lawful 𝓤 H (𝓖 .A) W .typed c _ g .0) (λ c u g. done-lawful 𝓤 H (𝓖 .A) W .typed c _ g .0) (λ c u g. stepped-lawful 𝓤 H (𝓖 .A) W .typed c _ g .0)
     𝓤 H (𝓖 .A) W (𝓜 .mem) (𝓡 .run) (tablesOf 𝓤 H 𝓜 (tables 𝓤 H 𝓜 𝓡 code.env))
-    (cited 𝓤 H (refuse port confirmed sought named short confirmedAsk (surveyed namedJoin namedStart) confirmedSlot closedCore closedCall 𝓤 H (𝓖 .A)) 𝓜 𝓡 code.env refuse-def.name refuse-def.routine code.calls-port·short (refuse-thm.met 𝓤 H 𝓜 𝓖 𝓡))
-    (cited 𝓤 H (ask port confirmed sought named short confirmedAsk (surveyed namedJoin namedStart) confirmedSlot closedCore closedCall 𝓤 H (𝓖 .A)) 𝓜 𝓡 code.env ask-def.name ask-def.routine code.calls-port·confirmed-ask (ask-thm.met 𝓤 H 𝓜 𝓖 𝓡))
-    (cited 𝓤 H (scan port confirmed sought named short confirmedAsk (surveyed namedJoin namedStart) confirmedSlot closedCore closedCall 𝓤 H (𝓖 .A)) 𝓜 𝓡 code.env scan-def.name scan-def.routine code.calls-port·by-phy (scan-thm.met 𝓤 H 𝓜 𝓖 𝓡))
-    (cited 𝓤 H (slot port confirmed sought named short confirmedAsk (surveyed namedJoin namedStart) confirmedSlot closedCore closedCall 𝓤 H (𝓖 .A)) 𝓜 𝓡 code.env slot-def.name slot-def.routine code.calls-port·confirmed-slot (slot-thm.met 𝓤 H 𝓜 𝓖 𝓡))
-    (cited 𝓤 H (Load 𝓤 H (𝓖 .A) (𝓜 .mem) (𝓡 .run)) 𝓜 𝓡 code.env load-def.name load-def.routine code.calls-port·load (load-thm.met 𝓤 H 𝓜 𝓖 𝓡))
-    (cited 𝓤 H (core port confirmed sought named short confirmedAsk (surveyed namedJoin namedStart) confirmedSlot closedCore closedCall 𝓤 H (𝓖 .A)) 𝓜 𝓡 code.env core-def.name core-def.routine code.calls-port·closed-core (core-thm.met 𝓤 H 𝓜 𝓖 𝓡))
+    (cited 𝓤 H (gives1 port stepped short 𝓤 H (𝓖 .A)) 𝓜 𝓡 code.env refuse-def.name refuse-def.routine code.calls-port·short (refuse-thm.met 𝓤 H 𝓜 𝓖 𝓡))
+    (cited 𝓤 H (gives2 port confirmed sought confirmedAsk 𝓤 H (𝓖 .A)) 𝓜 𝓡 code.env ask-def.name ask-def.routine code.calls-port·confirmed-ask (ask-thm.met 𝓤 H 𝓜 𝓖 𝓡))
+    (cited 𝓤 H (looks sought named (surveyed namedJoin namedStart) 𝓤 H (𝓖 .A)) 𝓜 𝓡 code.env scan-def.name scan-def.routine code.calls-port·by-phy (scan-thm.met 𝓤 H 𝓜 𝓖 𝓡))
+    (cited 𝓤 H (gives2 named confirmed (number w64) confirmedSlot 𝓤 H (𝓖 .A)) 𝓜 𝓡 code.env slot-def.name slot-def.routine code.calls-port·confirmed-slot (slot-thm.met 𝓤 H 𝓜 𝓖 𝓡))
+    (cited 𝓤 H (looks (number w64) request recordAt 𝓤 H (𝓖 .A)) 𝓜 𝓡 code.env load-def.name load-def.routine code.calls-port·load (load-thm.met 𝓤 H 𝓜 𝓖 𝓡))
+    (cited 𝓤 H (gives4 port request named confirmed done closedCore 𝓤 H (𝓖 .A)) 𝓜 𝓡 code.env core-def.name core-def.routine code.calls-port·closed-core (core-thm.met 𝓤 H 𝓜 𝓖 𝓡))
     (cited 𝓤 H (Apply 𝓤 H (𝓖 .A) (𝓜 .mem) (𝓡 .run)) 𝓜 𝓡 code.env left-def.name left-def.routine code.calls-port·left (left-thm.met 𝓤 H 𝓜 𝓖 𝓡)))

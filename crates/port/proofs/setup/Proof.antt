@@ -8,12 +8,13 @@ use Rattle.port.specs.Calls.{shortSetup, setupCall}
 use Rattle.port.specs.Scans.{setupAsk, setupSlot, setupCore}
 use Rattle.port_rules.specs.Rules.{apartFrom}
 use mathlib.Core.Path.{refl}
-use package.mir.Syntax.{w8, w16, tyInt, tyBool}
+use package.mir.Syntax.{w8, w16, w64, tyInt, tyBool}
 use denote.Plain.{uint-lawful, bool-lawful}
 use Rattle.port.proofs.Arg.{number, boolean}
-use Rattle.port.proofs.Rec.{R, lawful}
-use Rattle.port.proofs.Rows.{AgainstR, against, against-lawful, DoneR, done-lawful, SteppedR, stepped-lawful}
-use Rattle.port.proofs.Call.{refuse, ask, scan, slot, core, Load, Apply, call-meets}
+use Rattle.port.proofs.Rec.{R, request, lawful}
+use Rattle.port.proofs.Rows.{AgainstR, against, against-lawful, DoneR, done, done-lawful, SteppedR, stepped, stepped-lawful}
+use Rattle.port.proofs.Callees.{gives1, gives2, gives4, looks}
+use Rattle.port.proofs.Call.{recordAt, Apply, call-meets}
 use Rattle.port.proofs.short_setup.Symbol as refuse-def
 use Rattle.port.proofs.short_setup.Met as refuse-thm
 use Rattle.port.proofs.setup_ask.Symbol as ask-def
@@ -44,10 +45,10 @@ setup-spec 𝓤 H 𝓜 𝓖 𝓡 =
     (spell mir.table (pointee (R .written))) (spell mir.table (pointee (DoneR .written))) (spell mir.table (pointee (SteppedR .written))) (tyInt w8) (tyInt w16) (spell mir.table (pointee (AgainstR .written))) tyBool refuse-def.name ask-def.name scan-def.name slot-def.name core-def.name
     (λ c u g. uint-lawful 𝓤 H (𝓖 .A) W w8 .typed c _ g .0) (λ c u g. uint-lawful 𝓤 H (𝓖 .A) W w16 .typed c _ g .0) (λ c u g. against-lawful 𝓤 H (𝓖 .A) W .typed c _ g .0) (λ c u g. bool-lawful 𝓤 H (𝓖 .A) W .typed c _ g .0) (λ c u g. lawful 𝓤 H (𝓖 .A) W .typed c _ g .0) (λ c u g. done-lawful 𝓤 H (𝓖 .A) W .typed c _ g .0) (λ c u g. stepped-lawful 𝓤 H (𝓖 .A) W .typed c _ g .0)
     𝓤 H (𝓖 .A) W (𝓜 .mem) (𝓡 .run) (tablesOf 𝓤 H 𝓜 (tables 𝓤 H 𝓜 𝓡 code.env))
-    (cited 𝓤 H (refuse (number w8) (number w16) against boolean shortSetup setupAsk apartFrom setupSlot setupCore setupCall 𝓤 H (𝓖 .A)) 𝓜 𝓡 code.env refuse-def.name refuse-def.routine code.calls-port·short-setup (refuse-thm.met 𝓤 H 𝓜 𝓖 𝓡))
-    (cited 𝓤 H (ask (number w8) (number w16) against boolean shortSetup setupAsk apartFrom setupSlot setupCore setupCall 𝓤 H (𝓖 .A)) 𝓜 𝓡 code.env ask-def.name ask-def.routine code.calls-port·setup-ask (ask-thm.met 𝓤 H 𝓜 𝓖 𝓡))
-    (cited 𝓤 H (scan (number w8) (number w16) against boolean shortSetup setupAsk apartFrom setupSlot setupCore setupCall 𝓤 H (𝓖 .A)) 𝓜 𝓡 code.env scan-def.name scan-def.routine code.calls-port·apart (scan-thm.met 𝓤 H 𝓜 𝓖 𝓡))
-    (cited 𝓤 H (slot (number w8) (number w16) against boolean shortSetup setupAsk apartFrom setupSlot setupCore setupCall 𝓤 H (𝓖 .A)) 𝓜 𝓡 code.env slot-def.name slot-def.routine code.calls-port·setup-slot (slot-thm.met 𝓤 H 𝓜 𝓖 𝓡))
-    (cited 𝓤 H (Load 𝓤 H (𝓖 .A) (𝓜 .mem) (𝓡 .run)) 𝓜 𝓡 code.env load-def.name load-def.routine code.calls-port·load (load-thm.met 𝓤 H 𝓜 𝓖 𝓡))
-    (cited 𝓤 H (core (number w8) (number w16) against boolean shortSetup setupAsk apartFrom setupSlot setupCore setupCall 𝓤 H (𝓖 .A)) 𝓜 𝓡 code.env core-def.name core-def.routine code.calls-port·setup-core (core-thm.met 𝓤 H 𝓜 𝓖 𝓡))
+    (cited 𝓤 H (gives1 (number w8) stepped shortSetup 𝓤 H (𝓖 .A)) 𝓜 𝓡 code.env refuse-def.name refuse-def.routine code.calls-port·short-setup (refuse-thm.met 𝓤 H 𝓜 𝓖 𝓡))
+    (cited 𝓤 H (gives2 (number w8) (number w16) against setupAsk 𝓤 H (𝓖 .A)) 𝓜 𝓡 code.env ask-def.name ask-def.routine code.calls-port·setup-ask (ask-thm.met 𝓤 H 𝓜 𝓖 𝓡))
+    (cited 𝓤 H (looks against boolean apartFrom 𝓤 H (𝓖 .A)) 𝓜 𝓡 code.env scan-def.name scan-def.routine code.calls-port·apart (scan-thm.met 𝓤 H 𝓜 𝓖 𝓡))
+    (cited 𝓤 H (gives2 boolean (number w16) (number w64) setupSlot 𝓤 H (𝓖 .A)) 𝓜 𝓡 code.env slot-def.name slot-def.routine code.calls-port·setup-slot (slot-thm.met 𝓤 H 𝓜 𝓖 𝓡))
+    (cited 𝓤 H (looks (number w64) request recordAt 𝓤 H (𝓖 .A)) 𝓜 𝓡 code.env load-def.name load-def.routine code.calls-port·load (load-thm.met 𝓤 H 𝓜 𝓖 𝓡))
+    (cited 𝓤 H (gives4 (number w8) request boolean (number w16) done setupCore 𝓤 H (𝓖 .A)) 𝓜 𝓡 code.env core-def.name core-def.routine code.calls-port·setup-core (core-thm.met 𝓤 H 𝓜 𝓖 𝓡))
     (cited 𝓤 H (Apply 𝓤 H (𝓖 .A) (𝓜 .mem) (𝓡 .run)) 𝓜 𝓡 code.env left-def.name left-def.routine code.calls-port·left (left-thm.met 𝓤 H 𝓜 𝓖 𝓡)))
