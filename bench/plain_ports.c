@@ -184,19 +184,15 @@ static bool ready(const struct request *r, uint64_t now)
 static int way(const struct port *port, const struct request *r, uint8_t *phy)
 {
 	int opens = PHYS, closes = PHYS;
-	for (int k = PHYS - 1; k >= 0; k--) {
-		const struct phy *p = &port->phys[k];
-		if (p->stage == UNCONNECTED) {
-			opens = k;
-		} else if (p->stage == IDLE && (p->destination != r->head.destination || p->protocol != r->head.protocol)) {
-			closes = k;
-		}
-	}
 	for (int k = 0; k < PHYS; k++) {
 		const struct phy *p = &port->phys[k];
-		if (p->stage == IDLE && p->destination == r->head.destination && p->protocol == r->head.protocol) {
+		if (p->stage == UNCONNECTED) {
+			opens = opens < PHYS ? opens : k;
+		} else if (p->stage == IDLE && p->destination == r->head.destination && p->protocol == r->head.protocol) {
 			*phy = (uint8_t)k;
 			return SEND;
+		} else if (p->stage == IDLE) {
+			closes = closes < PHYS ? closes : k;
 		}
 	}
 	if (opens < PHYS) {
