@@ -21,8 +21,8 @@ use Rattle.xl_parts.specs.declared.Held.{Held}
 use Rattle.xl_parts.specs.declared.Seen.{Seen}
 use Rattle.xl_parts.specs.declared.State.{State}
 use Rattle.xl_parts.specs.declared.Answer.{Answer}
-use Rattle.xl_parts.specs.Parts.{ready, nothing, packed, stay, first, entry, entered, forgets, remembering, done}
-use Rattle.xl_rows.specs.Table.{backoff, crossed, takes}
+use Rattle.xl_parts.specs.Parts.{Effect, ready, nothing, packed, stay, first, entry, entered, forgets, remembering, done}
+use Rattle.xl_rows.specs.Table.{backoff, takes}
 use Rattle.xl_rows.proofs.Crossing.{unmoved, moved, moved-higher}
 use Rattle.xl.specs.Rules.{rules}
 use Rattle.xl.specs.Steps.{stepOf}
@@ -35,7 +35,7 @@ use Rattle.xl_calls.proofs.Kept.{kept, ready-keeps}
 use Rattle.xl_calls.proofs.Counts.{run-counts}
 use Rattle.xl_calls.proofs.Shown.{Shows, run-shown, gapless-call, few-done}
 use Rattle.xl_calls.proofs.Crossing.{disabled, opens-in-6, sent-in-5}
-use Rattle.xl_calls.proofs.Seen.{remembers}
+use Rattle.xl_calls.proofs.Seen.{remembers, none-in-5}
 use Rattle.xl_calls.proofs.Released.{released-call}
 use Rattle.claims.specs.Causes.{Bytes}
 use Rattle.claims.proofs.Calls.{Step, Receive, Status}
@@ -45,6 +45,17 @@ pub record Crossed (s : State) (f g : OpenFrame) : Type 0 where
   pub phase : s .phase ≡ Phase.Xl6
   pub transmitted : s .memory .held ≡ Held.Frame f
   pub fields : headListed (g .head) ≡ true
+
+-- the OPEN g that XL5 remembered, with no BREAK, where f is transmitted
+pub record Remembered (s : State) (f g : OpenFrame) : Type 0 where
+  pub phase : s .phase ≡ Phase.Xl5
+  pub transmitted : s .memory .held ≡ Held.Frame f
+  pub unbroken : s .memory .broke ≡ false
+  pub remembered : s .memory .heard ≡ Held.Frame g
+
+-- XL6 with what XL5 remembered forgotten
+abbrev forgotten : State → State
+forgotten s = remembering forgets (entered Phase.Xl6 s)
 
 -- the link after some calls from XL0
 abbrev after : List Call → State
@@ -77,8 +88,9 @@ pub record Links : Type 0 where
   pub overtakes : (cs : List Call) (f g : OpenFrame) → Crossed (after cs) f g → higherThan g f ≡ true → stepOf g (Event.Line Primitive.Open) (after cs) ≡ done (backoff f g (after cs))
   -- once an AIP came, every OPEN backs off
   pub yields : (cs : List Call) (f g : OpenFrame) (w : Wait) → Crossed (after cs) f g → aipMet (met cs ready []) ≡ Seen.Latest w → stepOf g (Event.Line Primitive.Open) (after cs) ≡ done (backoff f g (after cs))
-  -- an OPEN that XL5 remembered is taken at Sent as XL6 takes one, behind ArbStatus(Waiting On Device), and forgotten
-  pub sends : (cs : List Call) (f g : OpenFrame) → after cs .phase ≡ Phase.Xl5 → after cs .memory .broke ≡ false → after cs .memory .heard ≡ Held.Frame g → stepOf f (Event.Own Notice.Sent) (after cs) ≡ done (first (entry Phase.Xl6) (crossed (after cs .memory .held) g (remembering forgets (entered Phase.Xl6 (after cs)))))
+  -- an OPEN that XL5 remembered is taken at Sent as XL6 takes one, behind ArbStatus(Waiting On Device), and forgotten: no AIP can have come
+  pub sends-on : (cs : List Call) (e f g : OpenFrame) → Remembered (after cs) f g → higherThan g f ≡ false → stepOf e (Event.Own Notice.Sent) (after cs) ≡ done (first (entry Phase.Xl6) (stay [] (forgotten (after cs))))
+  pub sends-back : (cs : List Call) (e f g : OpenFrame) → Remembered (after cs) f g → higherThan g f ≡ true → stepOf e (Event.Own Notice.Sent) (after cs) ≡ done (first (entry Phase.Xl6) (backoff f g (forgotten (after cs))))
   -- a call releases a path exactly if it takes the link from a state to one of those that its path is left to
   pub path-left : (s : State) (c : Call) → releases s (callOf c s .state) ≡ oneOf (callOf c s .state .phase) (leavesTo (s .phase))
   -- Disable gives XL0 with no action and no memory but the count
@@ -107,7 +119,8 @@ links = record {
   stands = λ cs f g x never low. opens-in-6 (after cs) g (kept cs ready ready-keeps) (x .phase) (x .fields) ∙ ap done (unmoved (after cs) f g (x .transmitted) (remembers cs (x .phase) ∙ never) low);
   overtakes = λ cs f g x high. opens-in-6 (after cs) g (kept cs ready ready-keeps) (x .phase) (x .fields) ∙ ap done (moved-higher (after cs) f g (x .transmitted) high);
   yields = λ cs f g w x seen. opens-in-6 (after cs) g (kept cs ready ready-keeps) (x .phase) (x .fields) ∙ ap done (moved (after cs) f g (x .transmitted) w (remembers cs (x .phase) ∙ seen));
-  sends = λ cs f g phase unbroken heard. sent-in-5 (after cs) f g (kept cs ready ready-keeps) phase unbroken heard;
+  sends-on = λ cs e f g x low. sent-in-5 (after cs) e g (kept cs ready ready-keeps) (x .phase) (x .unbroken) (x .remembered) ∙ ap (λ (y : Effect). done (first (entry Phase.Xl6) y)) (unmoved (forgotten (after cs)) f g (x .transmitted) (none-in-5 cs (x .phase)) low);
+  sends-back = λ cs e f g x high. sent-in-5 (after cs) e g (kept cs ready ready-keeps) (x .phase) (x .unbroken) (x .remembered) ∙ ap (λ (y : Effect). done (first (entry Phase.Xl6) y)) (moved-higher (forgotten (after cs)) f g (x .transmitted) high);
   path-left = λ s c. released-call s c;
   disables = λ s f e. disabled s e f;
 }

@@ -175,3 +175,7 @@ told-run (c ∷ cs) s ms h = told-run cs (callOf c s .state) (cond (isDone (call
 -- in XL6, after any calls from XL0
 pub remembers : (cs : List Call) → run cs ready .phase ≡ Xl6 → run cs ready .memory .aip ≡ aipMet (met cs ready [])
 remembers cs e = subst (λ (p : Phase). Says p (run cs ready .memory .aip) (aipMet (met cs ready []))) e (told-run cs ready [] tt)
+
+-- in XL5 there is none
+pub none-in-5 : (cs : List Call) → run cs ready .phase ≡ Xl5 → run cs ready .memory .aip ≡ Never
+none-in-5 cs e = subst (λ (p : Phase). Says p (run cs ready .memory .aip) (aipMet (met cs ready []))) e (told-run cs ready [] tt)
