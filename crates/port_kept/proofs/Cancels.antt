@@ -21,7 +21,7 @@ use Rattle.port_core.specs.declared.Word.the-variants.{CancelAcknowledged, Stop
 use Rattle.port.specs.Calls.{leftOf}
 use Rattle.port_kept.proofs.Changes.{changed}
 use Rattle.port_kept.proofs.Enters.{free-enters, same-enters}
-use Rattle.port_kept.proofs.Holds.{old-retry, old-first, old-loss, present-as, busy-kept, present-at, number-low}
+use Rattle.port_kept.proofs.Holds.{old-retry, old-first, old-loss, present-as, busy-kept, present-at, in-progress, its-phy, its-name, number-low}
 use Rattle.port_kept.proofs.Lates.{waits-on}
 use Rattle.port_kept.proofs.Links.{stay}
 
@@ -46,18 +46,14 @@ module _ (p : Port) (l : List Request) (size : length l ≡ 32) (eight : length 
       waits-on p l size eight was (d .answer) blank now on (λ h e. omega arith) (λ e. omega arith) (λ h. free-enters p l i unchanged now) (d .port)
 
   module _ (off : isWaiting r ≡ false) where
-    -- a request that doesn't wait is in progress, and its phy names it
     busy : r .stage ≡ 2
-    busy = by there (held .flags .stage) (eqb-false (r .stage) 1 off)
-      where
-        by : {n : ℕ} → (n ≡ 0 → ⊥) → n ≤ 2 → (n ≡ 1 → ⊥) → n ≡ 2
-        by a b c = omega arith
+    busy = in-progress p l was i low there (eqb-false (r .stage) 1 off)
 
     in-port : r .phy < 8
-    in-port = was .requests i low .paired .phy busy
+    in-port = its-phy p l was i low busy
 
     named : f .slot ≡ i
-    named = was .requests i low .paired .each (r .phy) in-port .1 (busy, refl)
+    named = its-name p l was i low busy
 
     closed-kept : PhyKept (p .count) (closedPhy f) (r .phy)
     closed-kept = by-test (λ (n : ℕ). PhyKept (p .count) (stagedPhy n (f .slot) f) (r .phy)) (isSending f) sending same

@@ -2,7 +2,6 @@
 pub mod Records
 pub mod Passes
 pub mod Cores
-pub mod Verdicts
 pub mod Steps
 pub mod Histories
 pub mod Turns

@@ -13,7 +13,6 @@ use borrow.Author.Tests.{ne-eqb, eqb-true, ltb-false}
 use Rattle.laws.proofs.Bools.{never, by-test}
 use Rattle.refusals.proofs.Causes.{NoneGiven}
 use Rattle.port_parts.specs.Parts.{off, blank, isWaiting, isSsp, isOpening}
-use Rattle.port_parts.specs.Parts as parts
 use Rattle.port_parts.specs.Qualifies.{Qualifies, sends, opens, closes, Right, none, one}
 use Rattle.port_parts.specs.Reasons.{reasonOf, isRetried}
 use Rattle.port_parts.specs.Timer.{isLost}
@@ -35,11 +34,14 @@ use Rattle.port_core.specs.declared.Wish.{Wish}
 use Rattle.port.specs.Calls.{onPhy, pickAt}
 use Rattle.port.specs.History.{State, Call, setup, submit, cancel, choose, opened, openFailed, frameStatus, closed, enable, disable, doneOf, isRefused, isLast}
 use Rattle.port.specs.declared.Moment.{Moment}
+use Rattle.port.proofs.Refusals.{causesOf, takenOf, behind}
+use Rattle.port_kept.proofs.Keeps.{phy-ok}
+use Rattle.port_kept.proofs.Leaves.{by-taken}
 use Rattle.port_once.specs.Standing.{isSetup, isSubmitted}
 use Rattle.port_once.specs.Turns.{Lawful}
 use Rattle.port_once.specs.Marks.{isCancel, isAcknowledged, isGoing, isChoose, isClose}
-use Rattle.port_once.proofs.Passes.{submittedTo, endedBy, stoppedBy, openedBy, failedBy, framedBy, closedBy, disabledBy, enabledBy, causesAt, takenAt, by-taken}
-use Rattle.port_once.proofs.Cores.{waits, numbered, opening-names}
+use Rattle.port_once.proofs.Passes.{submittedTo, endedBy, stoppedBy, openedBy, failedBy, framedBy, closedBy, disabledBy, enabledBy}
+use Rattle.port_once.proofs.Cores.{waits, opening-names}
 
 -- what is left of the marks at the answer's slot, where the list was l; the call is a Cancel or not, a choose or not
 pub record Marks (l : List Request) (canceling choosing : Bool) (d : Done) : Type 0 where
@@ -105,7 +107,7 @@ module _ (s : State) (ok : Lawful s) where
 
   choose-marks : (x : Moment) → Marks l false true (chosen p (getD l (pickAt l p (x .now) .slot) blank) (pickAt l p (x .now)) (x .now))
   unfolding chosen
-  choose-marks x = by (pickAt l p (x .now)) (choose-right (record { phys = p .phys; now = x .now }) l (ok .phys))
+  choose-marks x = by (pickAt l p (x .now)) (choose-right (record { phys = p .phys; now = x .now }) l (ok .sound .eight))
     where
       nothing : Marks l false true (idle p (x .now))
       nothing = rest false true (idle p (x .now)) refl refl refl (λ h. absurd (omega arith)) (λ e. absurd (never e)) (λ e. absurd (never e))
@@ -114,7 +116,7 @@ module _ (s : State) (ok : Lawful s) where
       by b (none nowhere) = nothing
       by b (one w) =
           let r = getD l (b .slot) blank in
-          let off = unmarked r (ok .kept .requests (b .slot) (w .slot) .present) (waits s ok r (phyAt p (b .phy)) (x .now) (b .step) (w .fits)) in
+          let off = unmarked r (ok .sound .kept .requests (b .slot) (w .slot) .present) (waits s ok r (phyAt p (b .phy)) (x .now) (b .step) (w .fits)) in
           by-test (Marks l false true) (eqb (b .step) 1) (λ _. rest false true (sent p r b (x .now)) refl refl refl (λ _. (refl, refl)) (λ _. (w .slot, off)) (λ e. absurd (never e)))
           (λ _. by-test (Marks l false true) (eqb (b .step) 2) (λ _. rest false true (opening p r b (x .now)) refl refl refl (λ _. (refl, refl)) (λ _. (w .slot, off)) (λ e. absurd (never e)))
           (λ _. by-test (Marks l false true) (eqb (b .step) 3)
@@ -133,7 +135,7 @@ module _ (s : State) (ok : Lawful s) where
       r = onPhy l p (x .phy)
 
       named : f .slot < 32
-      named = opening-names s ok (x .phy) (numbered s ok (x .phy) (x .now) (not (isOpening f)) pass) (pass .1 .1 .1 .0)
+      named = opening-names s ok (x .phy) (phy-ok p l (x .phy) (x .now) (not (isOpening f)) pass .0) (pass .1 .1 .1 .0)
 
       cases : (t : Bool) → isCancelled r ≡ t → Marks l false false (openedBy p f r x t)
       cases true e = holds-back false (openedBy p f r x true) refl refl refl refl (λ _. (refl, refl))
@@ -203,8 +205,8 @@ module _ (s : State) (ok : Lawful s) where
 
   -- ---- all of them
 
-  marks : (c : Call) → isSetup c ≡ false → NoneGiven (causesAt c s) → Marks l (isCancel c) (isChoose c) (takenAt c s)
-  unfolding causesAt takenAt
+  marks : (c : Call) → isSetup c ≡ false → NoneGiven (behind (causesOf c s)) → Marks l (isCancel c) (isChoose c) (takenOf c s)
+  unfolding causesOf takenOf
   marks (setup count loss) e pass = absurd (never (sym e))
   marks (submit x) e pass = submit-marks x
   marks (cancel x) e pass = cancelled-marks (keyOf l (x .key)) (x .now)
@@ -217,4 +219,4 @@ module _ (s : State) (ok : Lawful s) where
   marks (disable x) e pass = disable-marks x
 
   pub marked-so : (c : Call) → isSetup c ≡ false → isRefused (doneOf c s .answer .word) ≡ false → Marks l (isCancel c) (isChoose c) (doneOf c s)
-  marked-so c e = by-taken (Marks l (isCancel c) (isChoose c)) c s (marks c e)
+  marked-so c e = by-taken c s (Marks l (isCancel c) (isChoose c)) (marks c e)
