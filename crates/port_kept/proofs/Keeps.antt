@@ -8,11 +8,11 @@ use native.Mathlib.Omega.{arith}
 use lib.Dec.{eqb, leb, ltb}
 use lib.ListN.{length, getD, set, length-set, length-replicate}
 use borrow.Author.Tests.{eqb-true, eqb-false, ltb-true, ltb-false, leb-false, not-true, not-false}
-use Rattle.laws.proofs.Bools.{never, nor, and-left, by-test}
+use Rattle.laws.proofs.Bools.{never, nor, and-left}
 use Rattle.laws.proofs.Finds.{Found, none, at}
 use Rattle.refusals.proofs.Causes.{NoneGiven}
 use Rattle.open_frame.specs.Open.{headListed}
-use Rattle.port_parts.specs.Parts.{off, blank, isFree, isWaiting, isOpening, isDisabled}
+use Rattle.port_parts.specs.Parts.{off, blank, isFree, isOpening, isDisabled}
 use Rattle.port_parts.specs.Reasons.{reasonOf}
 use Rattle.port_parts.specs.declared.Phy.{Phy}
 use Rattle.port_parts.specs.declared.Pick.{Pick}
@@ -37,6 +37,7 @@ use Rattle.port_kept.proofs.Leaves.{by-call}
 use Rattle.port_kept.proofs.Opens.{opened-keeps, failed-keeps}
 use Rattle.port_kept.proofs.Parted.{enable-keeps, disable-keeps, closed-keeps, status-keeps}
 use Rattle.port_kept.proofs.Submits.{submit-keeps}
+use Rattle.port_kept.proofs.Ways.{by-cancelled, by-chosen}
 
 -- ---- what the scans of submit and cancel found
 
@@ -50,17 +51,14 @@ key-there l x n (at m t nil) h = eqb-false (getD l n blank .stage) 0 (not-true (
 
 -- ---- eight phys stay eight
 
-cancelled-eight : (p : Port) (r : Request) (s now : ℕ) → length (p .phys) ≡ 8 → length (cancelled p r s now .port .phys) ≡ 8
-unfolding cancelled
-cancelled-eight p r s now eight = by-test (λ (d : Done). length (d .port .phys) ≡ 8) (isWaiting r) (λ t. eight) (λ t. length-set (p .phys) _ _ ∙ eight)
+abbrev Eight : Done → Type 0
+Eight d = length (d .port .phys) ≡ 8
 
-chosen-eight : (p : Port) (r : Request) (b : Pick) (now : ℕ) → length (p .phys) ≡ 8 → length (chosen p r b now .port .phys) ≡ 8
-unfolding chosen
-chosen-eight p r b now eight =
-    by-test Eight (eqb (b .step) 1) (λ t. length-set (p .phys) _ _ ∙ eight) (λ t. by-test Eight (eqb (b .step) 2) (λ t. length-set (p .phys) _ _ ∙ eight) (λ t. by-test Eight (eqb (b .step) 3) (λ t. length-set (p .phys) _ _ ∙ eight) (λ t. eight)))
-  where
-    Eight : Done → Type 0
-    Eight d = length (d .port .phys) ≡ 8
+cancelled-eight : (p : Port) (r : Request) (s now : ℕ) → length (p .phys) ≡ 8 → Eight (cancelled p r s now)
+cancelled-eight p r s now eight = by-cancelled Eight p r s now (λ t. eight) (λ t. length-set (p .phys) _ _ ∙ eight)
+
+chosen-eight : (p : Port) (r : Request) (b : Pick) (now : ℕ) → length (p .phys) ≡ 8 → Eight (chosen p r b now)
+chosen-eight p r b now eight = by-chosen Eight p r b now (λ t. length-set (p .phys) _ _ ∙ eight) (λ t. length-set (p .phys) _ _ ∙ eight) (λ t. length-set (p .phys) _ _ ∙ eight) eight
 
 -- ---- the calls
 

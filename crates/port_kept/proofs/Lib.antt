@@ -1,4 +1,5 @@
 -- No call of the port leaves a state that breaks the rules.
+pub mod Ways
 mod Links
 pub mod Holds
 pub mod Spreads

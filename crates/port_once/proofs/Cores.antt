@@ -7,15 +7,15 @@ use mathlib.Core.Bool.{Bool, true, false, not, _&&_}
 use mathlib.Core.List.{List}
 use mathlib.Core.Logic.{inl, inr}
 use native.Mathlib.Omega.{arith}
-use lib.Dec.{eqb, leb}
+use lib.Dec.{leb}
 use lib.ListN.{getD}
 use borrow.Author.Tests.{eqb-true, eq-eqb, leb-false, ltb-true, ltb-false, not-false}
-use Rattle.laws.proofs.Bools.{never, nor, by-test}
+use Rattle.laws.proofs.Bools.{never, nor}
 use Rattle.laws.proofs.Tests.{equal, either}
 use Rattle.laws.proofs.Finds.{Found, none, at}
 use Rattle.refusals.proofs.Causes.{NoneGiven}
-use Rattle.port_parts.specs.Parts.{blank, isFree, isWaiting, isSsp, isOpening, isDisabled}
-use Rattle.port_parts.specs.Qualifies.{Qualifies, sends, opens, closes, Right, none, one}
+use Rattle.port_parts.specs.Parts.{blank, isFree, isSsp, isOpening, isDisabled}
+use Rattle.port_parts.specs.Qualifies.{Right, none, one}
 use Rattle.port_parts.specs.Reasons.{reasonOf, isRetried}
 use Rattle.port_parts.specs.Timer.{isLost}
 use Rattle.port_parts.specs.declared.Phy.{Phy}
@@ -41,10 +41,10 @@ use Rattle.port.proofs.Refusals.{lowest-free, present-says, key-found, causesOf
 use Rattle.port_kept.proofs.Holds.{phy-kept, on-it}
 use Rattle.port_kept.proofs.Keeps.{key-there, phy-ok}
 use Rattle.port_kept.proofs.Leaves.{by-taken}
+use Rattle.port_kept.proofs.Ways.{submittedTo, endedBy, stoppedBy, openedBy, failedBy, framedBy, closedBy, disabledBy, enabledBy, by-cancelled, by-chosen, waits}
 use Rattle.port_once.specs.Standing.{isSetup, isSubmitted}
 use Rattle.port_once.specs.Turns.{Turns, Lawful}
 use Rattle.port_once.proofs.Records.{comes, leaves, rests}
-use Rattle.port_once.proofs.Passes.{submittedTo, endedBy, stoppedBy, openedBy, failedBy, framedBy, closedBy, disabledBy, enabledBy}
 
 not-free : (r : Request) (n : ℕ) → r .stage ≡ suc n → Free r → ⊥
 not-free r n a f = omega (arith, a, f)
@@ -74,9 +74,8 @@ module _ (s : State) (ok : Lawful s) where
   -- ---- cancel
 
   cancelled-turns : (k now : ℕ) → k < 32 → (Free (getD l k blank) → ⊥) → Done-turns (cancelled p (getD l k blank) k now)
-  unfolding cancelled
   cancelled-turns k now h there =
-      by-test Done-turns (isWaiting r) (λ _. leaves l (endedBy p r k now) (ok .list) refl refl h there refl refl) (λ _. stopping (isOpening (phyAt p (r .phy))))
+      by-cancelled Done-turns p r k now (λ _. leaves l (endedBy p r k now) (ok .list) refl refl h there refl refl) (λ _. stopping (isOpening (phyAt p (r .phy))))
     where
       r : Request
       r = getD l k blank
@@ -95,23 +94,17 @@ module _ (s : State) (ok : Lawful s) where
 
   -- ---- choose
 
-  pub waits : (r : Request) (f : Phy) (now step : ℕ) → Qualifies now r f step → r .stage ≡ 1
-  waits r f now step (sends a ready b c) = ready .0
-  waits r f now step (opens a ready b) = ready .0
-  waits r f now step (closes a ready b c d) = ready .0
+  nothing-turns : (now : ℕ) → Done-turns (idle p now)
+  nothing-turns now = rests l (idle p now) (ok .list) refl refl refl (λ h. absurd (omega arith))
 
   chosen-turns : (now : ℕ) (b : Pick) → Right (p .phys) now l b → Done-turns (chosen p (getD l (b .slot) blank) b now)
   unfolding chosen
-  chosen-turns now b (none nowhere) = rests l (idle p now) (ok .list) refl refl refl (λ h. absurd (omega arith))
+  chosen-turns now b (none nowhere) = nothing-turns now
   chosen-turns now b (one w) =
-      let there = not-free r 0 (waits r _ now (b .step) (w .fits)) in
-      by-test Done-turns (eqb (b .step) 1)
-      (λ _. rests l (sent p r b now) (ok .list) refl refl refl (λ h. (there, (refl, (not-free (placed r 2 (b .phy)) 1 refl, refl)))))
-      (λ _. by-test Done-turns (eqb (b .step) 2)
+      let there = not-free r 0 (waits (w .fits)) in
+      by-chosen Done-turns p r b now (λ _. rests l (sent p r b now) (ok .list) refl refl refl (λ h. (there, (refl, (not-free (placed r 2 (b .phy)) 1 refl, refl)))))
       (λ _. rests l (opening p r b now) (ok .list) refl refl refl (λ h. (there, (refl, (not-free (placed r 2 (b .phy)) 1 refl, refl)))))
-      (λ _. by-test Done-turns (eqb (b .step) 3)
-      (λ _. rests l (closing p r b now) (ok .list) refl refl refl (λ h. (there, (refl, (there, refl)))))
-      (λ _. rests l (idle p now) (ok .list) refl refl refl (λ h. absurd (omega arith)))))
+      (λ _. rests l (closing p r b now) (ok .list) refl refl refl (λ h. (there, (refl, (there, refl))))) (nothing-turns now)
     where
       r : Request
       r = getD l (b .slot) blank
@@ -132,19 +125,6 @@ module _ (s : State) (ok : Lawful s) where
   -- an answer about a phy that names none
   nameless-rests : (d : Done) → d .cleared ≡ false → isSubmitted (d .answer .word) ≡ false → isLast (d .answer .word) ≡ false → 32 ≤ d .answer .slot → Done-turns d
   nameless-rests d some a b past = rests l d (ok .list) some a b (λ h. absurd (omega (arith, h, past)))
-
-  opened-turns : (x : Confirmed) → NoneGiven (phyCauses p (rules p l) (x .phy) (x .now) (not (isOpening (phyAt p (x .phy))))) → Done-turns (connected p (phyAt p (x .phy)) (onPhy l p (x .phy)) x)
-  opened-turns x pass = cases (isCancelled r) (busy (x .phy) (phy-ok p l (x .phy) (x .now) (not (isOpening f)) pass .0))
-    where
-      f : Phy
-      f = phyAt p (x .phy)
-
-      r : Request
-      r = onPhy l p (x .phy)
-
-      cases : (t : Bool) → (f .slot < 32 → Free r → ⊥) → Done-turns (openedBy p f r x t)
-      cases true there = rests l (openedBy p f r x true) (ok .list) refl refl refl (λ h. (there h, (refl, (there h, refl))))
-      cases false there = rests l (openedBy p f r x false) (ok .list) refl refl refl (λ h. (there h, (refl, (there h, refl))))
 
   open-failed-turns : (x : Failure) → NoneGiven (failedCauses p (rules p l) x (not (isOpening (phyAt p (x .phy))))) → Done-turns (failed p (phyAt p (x .phy)) (onPhy l p (x .phy)) (reasonOf (x .why)) (x .phy) (x .now))
   open-failed-turns x pass =
@@ -195,38 +175,42 @@ module _ (s : State) (ok : Lawful s) where
       by true e = named (ltb-true (f .slot) 32 e)
       by false e = nameless (ltb-false (f .slot) 32 e)
 
-  closed-turns : (x : Confirmed) → NoneGiven (phyCauses p (rules p l) (x .phy) (x .now) (not (isJoined (phyAt p (x .phy))))) → Done-turns (closedDone p (phyAt p (x .phy)) (onPhy l p (x .phy)) x)
-  closed-turns x pass =
-      by-name f (λ n. closedBy p f r x n (isCancelled r)) (λ h. cases (isCancelled r) h (busy (x .phy) (phy-ok p l (x .phy) (x .now) (not (isJoined f)) pass .0) h))
-      (nameless-rests (closedBy p f r x false (isCancelled r)) refl refl refl)
-    where
-      f : Phy
-      f = phyAt p (x .phy)
+  -- ---- a phy's calls that are confirmations of it
 
-      r : Request
-      r = onPhy l p (x .phy)
+  module _ (x : Confirmed) where
+    abbrev f : Phy
+    f = phyAt p (x .phy)
 
-      cases : (t : Bool) → f .slot < 32 → (Free r → ⊥) → Done-turns (closedBy p f r x true t)
-      cases true h there = leaves l (closedBy p f r x true true) (ok .list) refl refl h there refl refl
-      cases false h there = leaves l (closedBy p f r x true false) (ok .list) refl refl h there refl refl
+    abbrev r : Request
+    r = onPhy l p (x .phy)
 
-  enable-turns : (x : Confirmed) → Done-turns (enabledBy p (onPhy l p (x .phy)) x)
-  enable-turns x = nameless-rests (enabledBy p (onPhy l p (x .phy)) x) refl refl refl (omega arith)
+    opened-turns : NoneGiven (phyCauses p (rules p l) (x .phy) (x .now) (not (isOpening f))) → Done-turns (connected p f r x)
+    opened-turns pass = cases (isCancelled r) (busy (x .phy) (phy-ok p l (x .phy) (x .now) (not (isOpening f)) pass .0))
+      where
+        cases : (t : Bool) → (f .slot < 32 → Free r → ⊥) → Done-turns (openedBy p f r x t)
+        cases true there = rests l (openedBy p f r x true) (ok .list) refl refl refl (λ h. (there h, (refl, (there h, refl))))
+        cases false there = rests l (openedBy p f r x false) (ok .list) refl refl refl (λ h. (there h, (refl, (there h, refl))))
 
-  disable-turns : (x : Confirmed) → NoneGiven (phyCauses p (rules p l) (x .phy) (x .now) (isDisabled (phyAt p (x .phy)))) → Done-turns (disabledDone p (phyAt p (x .phy)) (onPhy l p (x .phy)) x)
-  disable-turns x pass =
-      by-name f (λ n. disabledBy p f r x n (isCancelled r)) (λ h. cases (isCancelled r) h (busy (x .phy) (phy-ok p l (x .phy) (x .now) (isDisabled f) pass .0) h))
-      (nameless-rests (disabledBy p f r x false (isCancelled r)) refl refl refl)
-    where
-      f : Phy
-      f = phyAt p (x .phy)
+    closed-turns : NoneGiven (phyCauses p (rules p l) (x .phy) (x .now) (not (isJoined f))) → Done-turns (closedDone p f r x)
+    closed-turns pass =
+        by-name f (λ n. closedBy p f r x n (isCancelled r)) (λ h. cases (isCancelled r) h (busy (x .phy) (phy-ok p l (x .phy) (x .now) (not (isJoined f)) pass .0) h))
+        (nameless-rests (closedBy p f r x false (isCancelled r)) refl refl refl)
+      where
+        cases : (t : Bool) → f .slot < 32 → (Free r → ⊥) → Done-turns (closedBy p f r x true t)
+        cases true h there = leaves l (closedBy p f r x true true) (ok .list) refl refl h there refl refl
+        cases false h there = leaves l (closedBy p f r x true false) (ok .list) refl refl h there refl refl
 
-      r : Request
-      r = onPhy l p (x .phy)
+    enable-turns : Done-turns (enabledBy p r x)
+    enable-turns = nameless-rests (enabledBy p r x) refl refl refl (omega arith)
 
-      cases : (t : Bool) → f .slot < 32 → (Free r → ⊥) → Done-turns (disabledBy p f r x true t)
-      cases true h there = leaves l (disabledBy p f r x true true) (ok .list) refl refl h there refl refl
-      cases false h there = rests l (disabledBy p f r x true false) (ok .list) refl refl refl (λ _. (there, (refl, (not-free (placed r 1 0) 0 refl, refl))))
+    disable-turns : NoneGiven (phyCauses p (rules p l) (x .phy) (x .now) (isDisabled f)) → Done-turns (disabledDone p f r x)
+    disable-turns pass =
+        by-name f (λ n. disabledBy p f r x n (isCancelled r)) (λ h. cases (isCancelled r) h (busy (x .phy) (phy-ok p l (x .phy) (x .now) (isDisabled f) pass .0) h))
+        (nameless-rests (disabledBy p f r x false (isCancelled r)) refl refl refl)
+      where
+        cases : (t : Bool) → f .slot < 32 → (Free r → ⊥) → Done-turns (disabledBy p f r x true t)
+        cases true h there = leaves l (disabledBy p f r x true true) (ok .list) refl refl h there refl refl
+        cases false h there = rests l (disabledBy p f r x true false) (ok .list) refl refl refl (λ _. (there, (refl, (not-free (placed r 1 0) 0 refl, refl))))
 
   -- ---- all of them
 

@@ -1,6 +1,5 @@
 -- Each accepted submit leaves once, with one last word.
 pub mod Records
-pub mod Passes
 pub mod Cores
 pub mod Steps
 pub mod Histories

@@ -1,28 +1,27 @@
--- What the calls leave, by the tests that tell their ways apart; and every call but setup that is taken found the rules kept, since it
--- checks them. Assumes nothing.
+-- What the calls leave, by the tests that tell their ways apart: Cancel's by whether the request waits, choose's by the step of its pick.
+-- Assumes nothing.
 use Prim.Native.Nat.{ℕ}
-use mathlib.Core.Path.{_≡_, sym}
+use mathlib.Core.Path.{_≡_}
 use mathlib.Core.Bool.{Bool, true, false, not, cond, _&&_}
-use borrow.Author.Tests.{not-false}
-use Rattle.laws.proofs.Bools.{never}
-use Rattle.refusals.proofs.Causes.{NoneGiven}
-use Rattle.port_parts.specs.Parts.{none, off, blank, isSsp, isSending}
+use lib.Dec.{eqb}
+use borrow.Author.Tests.{eqb-true}
+use Rattle.laws.proofs.Bools.{by-test}
+use Rattle.port_parts.specs.Parts.{none, off, blank, isSsp, isSending, isWaiting, isOpening}
+use Rattle.port_parts.specs.Qualifies.{Qualifies, sends, opens, closes}
 use Rattle.port_parts.specs.declared.Phy.{Phy}
+use Rattle.port_parts.specs.declared.Pick.{Pick}
 use Rattle.port_parts.specs.declared.Port.{Port}
 use Rattle.port_parts.specs.declared.Reason.{Reason}
 use Rattle.port_parts.specs.declared.Request.{Request}
-use Rattle.port_rules.specs.Rules.{rules}
 use Rattle.port_core.specs.Answers.{later, withPhy, idlePhy, joinedPhy, stagedPhy, unchanged, lossBy, told}
-use Rattle.port_core.specs.Calls.{placed, marked, timed, phyAt, closedPhy, submitted, again, timerAfter}
+use Rattle.port_core.specs.Calls.{placed, marked, timed, phyAt, closedPhy, submitted, again, timerAfter, cancelled, sent, opening, closing, idle, chosen}
 use Rattle.port_core.specs.Finds.{roomOf}
 use Rattle.port_core.specs.declared.Confirmed.{Confirmed}
 use Rattle.port_core.specs.declared.Done.{Done}
 use Rattle.port_core.specs.declared.Report.{Report}
 use Rattle.port_core.specs.declared.Wish.{Wish}
 use Rattle.port_core.specs.declared.Word.the-variants.{Taken, Submitted, Send, Close, StopArb, Retried, Waiting, CancelAcknowledged, Ended, NexusLoss, ConnectionLost, Status}
-use Rattle.port.specs.History.{State, Call, setup, submit, cancel, choose, opened, openFailed, frameStatus, closed, enable, disable}
-use Rattle.port.proofs.Refusals.{causesOf, behind}
-use Rattle.port_once.specs.Standing.{isSetup}
+use Rattle.port.specs.History.{State}
 
 abbrev pub submittedTo : State → Wish → Done
 submittedTo s x =
@@ -62,16 +61,21 @@ disabledBy p f r x n t =
 abbrev pub enabledBy : Port → Request → Confirmed → Done
 enabledBy p r x = told (withPhy p (x .phy) idlePhy (x .now)) Taken 32 (x .phy) r blank unchanged
 
--- every call but setup checks the rules
-pub rules-checked : (c : Call) (s : State) → isSetup c ≡ false → NoneGiven (behind (causesOf c s)) → rules (s .port) (s .list) ≡ true
-unfolding causesOf
-rules-checked (setup count loss) s e pass = absurd (never (sym e))
-rules-checked (submit x) s e pass = not-false (rules (s .port) (s .list)) (pass .1 .0)
-rules-checked (cancel x) s e pass = not-false (rules (s .port) (s .list)) (pass .1 .0)
-rules-checked (choose x) s e pass = not-false (rules (s .port) (s .list)) (pass .0)
-rules-checked (opened x) s e pass = not-false (rules (s .port) (s .list)) (pass .0)
-rules-checked (openFailed x) s e pass = not-false (rules (s .port) (s .list)) (pass .1 .0)
-rules-checked (frameStatus x) s e pass = not-false (rules (s .port) (s .list)) (pass .0)
-rules-checked (closed x) s e pass = not-false (rules (s .port) (s .list)) (pass .0)
-rules-checked (enable x) s e pass = not-false (rules (s .port) (s .list)) (pass .0)
-rules-checked (disable x) s e pass = not-false (rules (s .port) (s .list)) (pass .0)
+-- ---- what holds of every way holds of the call
+
+module _ (P : Done → Type 0) (p : Port) (r : Request) where
+  pub by-cancelled : (k now : ℕ) → (isWaiting r ≡ true → P (endedBy p r k now)) → (isWaiting r ≡ false → P (stoppedBy p r k now (isOpening (phyAt p (r .phy))))) → P (cancelled p r k now)
+  unfolding cancelled
+  by-cancelled k now ends stops = by-test P (isWaiting r) ends stops
+
+  pub by-chosen : (b : Pick) (now : ℕ) → (b .step ≡ 1 → P (sent p r b now)) → (b .step ≡ 2 → P (opening p r b now)) → (b .step ≡ 3 → P (closing p r b now)) → P (idle p now) → P (chosen p r b now)
+  unfolding chosen
+  by-chosen b now first second third else =
+      by-test P (eqb (b .step) 1) (λ t. first (eqb-true (b .step) 1 t))
+      (λ t. by-test P (eqb (b .step) 2) (λ u. second (eqb-true (b .step) 2 u)) (λ u. by-test P (eqb (b .step) 3) (λ v. third (eqb-true (b .step) 3 v)) (λ v. else)))
+
+-- what qualifies waits
+pub waits : {now : ℕ} {r : Request} {f : Phy} {step : ℕ} → Qualifies now r f step → r .stage ≡ 1
+waits (sends e ready stage reach) = ready .0
+waits (opens e ready stage) = ready .0
+waits (closes e ready stage reach closed) = ready .0
