@@ -9,20 +9,16 @@ use mathlib.Core.Path.{_≡_}
 use lib.ListN.{length, getD}
 use Rattle.open_frame.specs.declared.Head.{Head}
 use Rattle.port_parts.specs.Parts.{blank}
-use Rattle.port_parts.specs.declared.Request.{Request}
 use Rattle.port_rules.specs.Kept.{Free}
 use Rattle.port_core.specs.declared.Answer.{Answer}
 use Rattle.port_core.specs.declared.Key.{Key}
-use Rattle.port.specs.Calls.{Called}
 use Rattle.port.specs.Grounds.{HasKey, Absent}
-use Rattle.port.specs.History.{State, Call, doneOf, shortOf, steppedBy, isRefused, isLast, leave, run, entriesOf, history}
-use Rattle.port.specs.declared.Stepped.{Stepped}
+use Rattle.port.specs.History.{State, Call, steppedBy, isRefused, isLast, leave, run, entriesOf, history}
 use Rattle.port_once.specs.Standing.{isSetup, isSubmitted, submits, lastWords, gone, there, wrong, standing, silent}
 use Rattle.port_once.specs.Turns.{keyed, Comes, Leaves, Rests, Holds, Zeros}
 use Rattle.port_once.specs.Runs.{Run, now, past}
 use Rattle.port_once.specs.Ends.{Ends}
 use Rattle.port_once.specs.Marks.{isCancel, isAcknowledged, isGoing, since, cancels, closes}
-use Rattle.port_once.proofs.Steps.{promised}
 use Rattle.port_once.proofs.Turns.{comes-when, leaves-when, rests-else, refused-nothing}
 use Rattle.port_once.proofs.Ends.{ends-from}
 use Rattle.port_once.proofs.Since.{acknowledged, withheld, closed-once}
@@ -33,8 +29,6 @@ abbrev said : Run → Call → Answer
 said r c = steppedBy c (now r) .answer
 
 pub record Leaving : Type 0 where
-  -- what a call's promise admits is what the history says of it
-  pub promised : (c : Call) (s : State) (r : Stepped) (after : List Request) → Called (s .list) (doneOf c s) (shortOf c s) r after → (r ≡ steppedBy c s) × (after ≡ leave c s .list)
   -- one call of any lent state; a port has eight phys. 01 PORT.11
   -- Submitted: a request comes into the lowest free slot, no request had its key, and the answer names its slot and head
   pub comes : (c : Call) (s : State) → length (s .port .phys) ≡ 8 → isSubmitted (steppedBy c s .answer .word) ≡ true → Comes (s .list) (leave c s .list) (steppedBy c s .answer)
@@ -71,7 +65,6 @@ pub record Leaving : Type 0 where
 
 pub leaving : Leaving
 leaving = record {
-  promised = promised;
   comes = comes-when;
   leaves = leaves-when;
   rests = rests-else;

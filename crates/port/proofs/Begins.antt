@@ -1,11 +1,14 @@
--- What an accepted setup leaves keeps the rules: no phy names a request, and every record is free. Assumes nothing.
+-- A call leaves its entry at its answer's slot, and of the others at most a timer that changed; a setup leaves all zeros. So what an accepted
+-- setup leaves keeps the rules: no phy names a request, and every record is free. Assumes nothing.
 use Prim.Native.Nat.{ℕ, _<_}
-use mathlib.Core.Path.{_≡_, refl, sym, ap, subst}
-use mathlib.Core.Bool.{true}
+use mathlib.Core.Path.{_≡_, refl, sym, ap, subst, _∙_}
+use mathlib.Core.Bool.{Bool, true, false, cond}
 use mathlib.Core.List.{List}
 use mathlib.Core.Logic.{inl, inr}
 use native.Mathlib.Omega.{arith}
+use lib.Dec.{eqb}
 use lib.ListN.{length, getD, getD-replicate}
+use borrow.Author.Tests.{eq-eqb, ne-eqb}
 use Rattle.laws.proofs.Maps.{map-length, map-at}
 use Rattle.port_parts.specs.Parts.{off, noPhy, blank}
 use Rattle.port_parts.specs.declared.Phy.{Phy}
@@ -15,7 +18,7 @@ use Rattle.port_core.specs.Answers.{fresh}
 use Rattle.port_core.specs.Calls.{bare}
 use Rattle.port_core.specs.declared.Done.{Done}
 use Rattle.port_core.specs.declared.Word.the-variants.{Taken}
-use Rattle.port.specs.Calls.{leftStep, leftOf}
+use Rattle.port.specs.Calls.{spread, leftStep, leftOf}
 
 -- what a call leaves at each place
 pub left-at : (l : List Request) (d : Done) (i : ℕ) → length l ≡ 32 → i < 32 → getD (leftOf l d) i blank ≡ leftStep (getD l i blank) i d
@@ -23,6 +26,23 @@ left-at l d i len h = map-at blank (λ r k. leftStep r k d) l 32 i h (omega arit
 
 pub left-length : (l : List Request) (d : Done) → length (leftOf l d) ≡ length l
 left-length l d = map-length blank (λ r k. leftStep r k d) l 32
+
+module _ (l : List Request) (d : Done) (len : length l ≡ 32) where
+  -- a setup leaves all zeros
+  pub left-zeros : d .cleared ≡ true → (i : ℕ) → i < 32 → getD (leftOf l d) i blank ≡ blank
+  left-zeros all i h = left-at l d i len h ∙ ap (λ (t : Bool). cond t blank (cond (eqb i (d .answer .slot)) (d .entry) (spread (d .loss) (getD l i blank)))) all
+
+  -- and any other call its entry at the answer's slot, and of the others at most a timer that changed
+  module _ (some : d .cleared ≡ false) where
+    pub left-here : d .answer .slot < 32 → getD (leftOf l d) (d .answer .slot) blank ≡ d .entry
+    left-here h =
+        left-at l d (d .answer .slot) len h
+        ∙ (λ k. cond (some k) blank (cond (eq-eqb (d .answer .slot) (d .answer .slot) refl k) (d .entry) (spread (d .loss) (getD l (d .answer .slot) blank))))
+
+    pub left-there : (i : ℕ) → i < 32 → (i ≡ d .answer .slot → ⊥) → getD (leftOf l d) i blank ≡ spread (d .loss) (getD l i blank)
+    left-there i h other =
+        left-at l d i len h
+        ∙ (λ k. cond (some k) blank (cond (ne-eqb i (d .answer .slot) other k) (d .entry) (spread (d .loss) (getD l i blank))))
 
 -- a disabled phy names none, and a free record is named by none
 off-kept : (count k : ℕ) → PhyKept count off k

@@ -1,5 +1,4 @@
--- What a public call promises is what the history says of it, since both read the same definitions; and a refusal names no slot and
--- changes no timer, so that it leaves every record. Assumes nothing.
+-- A refusal names no slot and changes no timer, so that it leaves every record. Assumes nothing.
 use Prim.Native.Nat.{ℕ, zero, suc, _≤_, _<_}
 use native.Mathlib.Omega.{arith}
 use mathlib.Core.Path.{_≡_, refl, ap, _∙_}
@@ -14,12 +13,7 @@ use Rattle.port_parts.specs.declared.Port.{Port}
 use Rattle.port_parts.specs.declared.Request.{Request}
 use Rattle.refusals.specs.declared.Refusal.{Refusal}
 use Rattle.port_core.specs.Answers.{refusedBy}
-use Rattle.port.specs.Calls.{leftStep, leftOf, Called}
-use Rattle.port.specs.History.{State, Call, doneOf, shortOf, steppedBy}
-use Rattle.port.specs.declared.Stepped.{Stepped}
-
-pub answered-so : (c : Call) (s : State) (r : Stepped) (after : List Request) → Called (s .list) (doneOf c s) (shortOf c s) r after → r ≡ steppedBy c s
-answered-so c s r after p = p .0
+use Rattle.port.specs.Calls.{leftStep, leftOf}
 
 -- a refusal changes no record
 left-alone : (r : Request) (i : ℕ) (p : Port) (k : Refusal) → i < 32 → leftStep r i (refusedBy p k) ≡ r

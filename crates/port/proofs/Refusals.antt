@@ -5,14 +5,14 @@ use native.Mathlib.Nat.{not-suc-le-zero}
 use mathlib.Core.Path.{_≡_, refl, sym, ap, subst, _∙_}
 use mathlib.Core.Bool.{Bool, true, false, not, cond, _&&_, _||_}
 use mathlib.Core.List.{List, [], _∷_}
-use mathlib.Core.Logic.{_⊎_, inl, inr, _↔_}
+use mathlib.Core.Logic.{_↔_}
 use native.Mathlib.Omega.{arith}
 use lib.Dec.{eqb, leb, ltb}
 use lib.ListN.{length, getD, List·getD-eq-default}
 use borrow.Author.Tests.{leb-true, le-leb, eqb-true, eq-eqb, ltb-true, ltb-false}
 use Rattle.laws.specs.Folds.{foldTo}
 use Rattle.laws.proofs.Bools.{never}
-use Rattle.laws.proofs.Tests.{Says, less, most, equal, itself, both, either, unless, means}
+use Rattle.laws.proofs.Tests.{Says, less, equal, itself, both, either, unless, means}
 use Rattle.laws.proofs.Folds.{fold-part}
 use Rattle.laws.proofs.Finds.{Found, none, at, found, Some, some}
 use Rattle.refusals.specs.Causes.{Cause, _when_, refuse, First, Decides, nil, cons}
@@ -32,17 +32,16 @@ use Rattle.port_parts.specs.declared.Request.{Request}
 use Rattle.port_rules.specs.Rules.{inRange, rules, sameKey, names, hasFrameOut}
 use Rattle.port_rules.specs.Kept.{Kept, Free, SameKey}
 use Rattle.port_rules.proofs.Facts.{range-says, rules-say}
-use Rattle.port_core.specs.Finds.{noRoom, roomStep, roomOf, hasKey, keyStep, keyOf}
+use Rattle.port_core.specs.Finds.{noRoom, roomStep, roomOf, hasKey, keyOf}
 use Rattle.port_core.specs.Calls.{phyAt, isJoined, isCancelled, closedPhy, marked, sent, opening, closing, idle, failedWord, timerAfter, bare, submitted, cancelled, chosen, connected, failed, framed, closedDone, disabledDone, submitCauses, cancelCauses, chooseCauses, phyCauses, failedCauses, setupOf, submitOf, cancelOf, chooseOf, openedOf, openFailedOf, frameStatusOf, closedOf, enableOf, disableOf}
-use Rattle.port_core.specs.Answers.{told, later, withPhy, fresh, noPort, idlePhy, unchanged, refusedBy}
+use Rattle.port_core.specs.Answers.{told, later, withPhy, fresh, idlePhy, unchanged, refusedBy}
 use Rattle.port_core.specs.declared.Done.{Done}
 use Rattle.port_core.specs.declared.Word.{Word}
 use Rattle.port_core.specs.declared.Word.the-variants.{Taken, Submitted, Send, Close, StopArb, Retried, Waiting, CancelAcknowledged, Ended, NexusLoss, ConnectionLost, Status, Refused}
 use Rattle.port_core.specs.declared.Key.{Key}
 use Rattle.port_core.specs.declared.Room.{Room}
-use Rattle.port.specs.History.{State, Call, doneOf, steppedBy, isRefused, setup, submit, cancel, choose, opened, openFailed, frameStatus, closed, enable, disable}
-use Rattle.port.specs.Calls.{steppedOf, short, shortSetup, onPhy, pickAt}
-use Rattle.port.specs.declared.Stepped.{Stepped}
+use Rattle.port.specs.History.{State, Call, doneOf, shortOf, steppedBy, isRefused, setup, submit, cancel, choose, opened, openFailed, frameStatus, closed, enable, disable}
+use Rattle.port.specs.Calls.{steppedOf, short, onPhy, pickAt}
 use Rattle.port.specs.Grounds.{Present, Full, HasKey, Absent, FrameOut, Joined, phyGrounds, groundsOf}
 
 -- ---- what the scans find
@@ -68,7 +67,7 @@ taken-says h r =
     both (unless (equal (r .stage) 0))
     (both (equal (r .head .destination) (h .destination)) (both (equal (r .head .protocol) (h .protocol)) (equal (r .head .tag) (h .tag))))
 
-present-says : (l : List Request) (h : Head) → Says (roomOf l h .same) (Present l h)
+pub present-says : (l : List Request) (h : Head) → Says (roomOf l h .same) (Present l h)
 present-says l h =
     means (subst (λ (t : Bool). Says t (Some blank taken l 32)) (sym part) (some blank taken l 32)) (
       λ s. let says = taken-says h (getD l (s .i) blank) .0 (s .passes) in record { slot = s .i; below = s .below; there = says .0; same = says .1 },
@@ -81,7 +80,7 @@ present-says l h =
     part : roomOf l h .same ≡ foldTo blank (λ (a : Bool) r i. a || taken r) false l 32
     part = fold-part blank (λ a r i. roomStep a r i h) (λ (a : Bool) r i. a || taken r) (λ (a : Room). a .same) (λ a r i. refl) noRoom l 32
 
-key-says : (r : Request) (x : Key) → Says (hasKey r x) (HasKey r x)
+pub key-says : (r : Request) (x : Key) → Says (hasKey r x) (HasKey r x)
 key-says r x =
     both (unless (equal (r .stage) 0))
     (both (equal (r .head .destination) (x .destination)) (both (equal (r .head .protocol) (x .protocol)) (equal (r .head .tag) (x .tag))))
@@ -197,32 +196,70 @@ takenOf (disable x) s = disabledDone (s .port) (phyAt (s .port) (x .phy)) (onPhy
 abbrev goesOn : Call → State → Word
 goesOn c s = takenOf c s .answer .word
 
--- the length comes first, and then the causes of the core
-by-length : (b : Bool) (d : Done) (short : Stepped) → short .answer .word ≡ Refused Refusal.Length → (cond b (steppedOf d) short) .answer .word ≡ cond (not b) (Refused Refusal.Length) (d .answer .word)
-by-length true d short e = refl
-by-length false d short e = e
+-- the causes behind the first, which is the list's length
+abbrev pub behind : List Cause → List Cause
+behind [] = []
+behind (c ∷ cs) = cs
 
-word-of : (s : State) (p : Port) (cs : List Cause) (d : Done) (short : Stepped) → short .answer .word ≡ Refused Refusal.Length
-    → (cond (eqb (length (s .list)) 32) (steppedOf (refuse (refusedBy p) cs d)) short) .answer .word ≡ refuse Refused ((Refusal.Length when not (eqb (length (s .list)) 32)) ∷ cs) (d .answer .word)
-word-of s p cs d short e =
-    by-length (eqb (length (s .list)) 32) (refuse (refusedBy p) cs d) short e
-    ∙ ap (cond (not (eqb (length (s .list)) 32)) (Refused Refusal.Length)) (causes.through (λ (k : Done). k .answer .word) (refusedBy p) cs d)
+pub length-first : (c : Call) (s : State) → causesOf c s ≡ (Refusal.Length when not (eqb (length (s .list)) 32)) ∷ behind (causesOf c s)
+unfolding causesOf
+length-first (setup count loss) s = refl
+length-first (submit x) s = refl
+length-first (cancel x) s = refl
+length-first (choose x) s = refl
+length-first (opened x) s = refl
+length-first (openFailed x) s = refl
+length-first (frameStatus x) s = refl
+length-first (closed x) s = refl
+length-first (enable x) s = refl
+length-first (disable x) s = refl
+
+-- a refusal gives the port that it was lent; a setup was lent none
+pub done-is : (c : Call) (s : State) → doneOf c s ≡ refuse (refusedBy (shortOf c s .port)) (behind (causesOf c s)) (takenOf c s)
+unfolding doneOf causesOf takenOf setupOf submitOf cancelOf chooseOf openedOf openFailedOf frameStatusOf closedOf enableOf disableOf
+done-is (setup count loss) s = refl
+done-is (submit x) s = refl
+done-is (cancel x) s = refl
+done-is (choose x) s = refl
+done-is (opened x) s = refl
+done-is (openFailed x) s = refl
+done-is (frameStatus x) s = refl
+done-is (closed x) s = refl
+done-is (enable x) s = refl
+done-is (disable x) s = refl
+
+-- a list of another length is refused
+pub short-is : (c : Call) (s : State) → shortOf c s ≡ short (shortOf c s .port)
+short-is (setup count loss) s = refl
+short-is (submit x) s = refl
+short-is (cancel x) s = refl
+short-is (choose x) s = refl
+short-is (opened x) s = refl
+short-is (openFailed x) s = refl
+short-is (frameStatus x) s = refl
+short-is (closed x) s = refl
+short-is (enable x) s = refl
+short-is (disable x) s = refl
+
+-- the length comes first, and then the causes of the core
+by-length : (b : Bool) (d : Done) (p : Port) → (cond b (steppedOf d) (short p)) .answer .word ≡ cond (not b) (Refused Refusal.Length) (d .answer .word)
+by-length true d p = refl
+by-length false d p = refl
 
 word-is : (c : Call) (s : State) → steppedBy c s .answer .word ≡ refuse Refused (causesOf c s) (goesOn c s)
-unfolding doneOf causesOf takenOf setupOf submitOf cancelOf chooseOf openedOf openFailedOf frameStatusOf closedOf enableOf disableOf
-word-is (setup count loss) s = word-of s noPort ((Refusal.Rules when not (inRange count loss)) ∷ []) (takenOf (setup count loss) s) (shortSetup count) refl
-word-is (submit x) s = word-of s (s .port) (submitCauses (s .port) (rules (s .port) (s .list)) (roomOf (s .list) (x .head)) x) (takenOf (submit x) s) (short (s .port)) refl
-word-is (cancel x) s =
-    word-of s (s .port) (cancelCauses (s .port) (getD (s .list) (keyOf (s .list) (x .key)) blank) (rules (s .port) (s .list)) (keyOf (s .list) (x .key)) x) (takenOf (cancel x) s) (short (s .port)) refl
-word-is (choose x) s = word-of s (s .port) (chooseCauses (s .port) (rules (s .port) (s .list)) (x .now)) (takenOf (choose x) s) (short (s .port)) refl
-word-is (opened x) s = word-of s (s .port) (phyCauses (s .port) (rules (s .port) (s .list)) (x .phy) (x .now) (not (isOpening (phyAt (s .port) (x .phy))))) (takenOf (opened x) s) (short (s .port)) refl
-word-is (openFailed x) s =
-    word-of s (s .port) (failedCauses (s .port) (rules (s .port) (s .list)) x (not (isOpening (phyAt (s .port) (x .phy))))) (takenOf (openFailed x) s) (short (s .port)) refl
-word-is (frameStatus x) s =
-    word-of s (s .port) (phyCauses (s .port) (rules (s .port) (s .list)) (x .phy) (x .now) (not (hasFrameOut (phyAt (s .port) (x .phy))))) (takenOf (frameStatus x) s) (short (s .port)) refl
-word-is (closed x) s = word-of s (s .port) (phyCauses (s .port) (rules (s .port) (s .list)) (x .phy) (x .now) (not (isJoined (phyAt (s .port) (x .phy))))) (takenOf (closed x) s) (short (s .port)) refl
-word-is (enable x) s = word-of s (s .port) (phyCauses (s .port) (rules (s .port) (s .list)) (x .phy) (x .now) (not (isDisabled (phyAt (s .port) (x .phy))))) (takenOf (enable x) s) (short (s .port)) refl
-word-is (disable x) s = word-of s (s .port) (phyCauses (s .port) (rules (s .port) (s .list)) (x .phy) (x .now) (isDisabled (phyAt (s .port) (x .phy)))) (takenOf (disable x) s) (short (s .port)) refl
+word-is c s =
+    (λ i. (cond long (steppedOf (done-is c s i)) (short-is c s i)) .answer .word) ∙ by-length long (refuse (refusedBy p) cs (takenOf c s)) p
+    ∙ ap (cond (not long) (Refused Refusal.Length)) (causes.through (λ (d : Done). d .answer .word) (refusedBy p) cs (takenOf c s))
+    ∙ ap (λ (all : List Cause). refuse Refused all (goesOn c s)) (sym (length-first c s))
+  where
+    long : Bool
+    long = eqb (length (s .list)) 32
+
+    p : Port
+    p = shortOf c s .port
+
+    cs : List Cause
+    cs = behind (causesOf c s)
 
 -- where a call isn't refused its word is no refusal
 choice : (t : Bool) (v w : Word) → isRefused v ≡ false → isRefused w ≡ false → isRefused (cond t v w) ≡ false
@@ -258,25 +295,25 @@ failed-word p r why now = by (isCancelled r) (not (isRetried why)) (isSsp (r .he
     by false false true = refl
     by false false false = refl
 
-taken : (c : Call) (s : State) → isRefused (goesOn c s) ≡ false
+pub taken-word : (c : Call) (s : State) → isRefused (takenOf c s .answer .word) ≡ false
 unfolding takenOf
-taken (setup count loss) s = refl
-taken (submit x) s = refl
-taken (cancel x) s = cancelled-word (s .port) (getD (s .list) (keyOf (s .list) (x .key)) blank) (keyOf (s .list) (x .key)) (x .now)
-taken (choose x) s = chosen-word (s .port) (getD (s .list) (pickAt (s .list) (s .port) (x .now) .slot) blank) (pickAt (s .list) (s .port) (x .now)) (x .now)
-taken (opened x) s = choice (isCancelled (onPhy (s .list) (s .port) (x .phy))) Close Send refl refl
-taken (openFailed x) s = failed-word (s .port) (onPhy (s .list) (s .port) (x .phy)) (reasonOf (x .why)) (x .now)
-taken (frameStatus x) s = choice (isCancelled (onPhy (s .list) (s .port) (x .phy))) CancelAcknowledged (Status (x .status)) refl refl
-taken (closed x) s =
+taken-word (setup count loss) s = refl
+taken-word (submit x) s = refl
+taken-word (cancel x) s = cancelled-word (s .port) (getD (s .list) (keyOf (s .list) (x .key)) blank) (keyOf (s .list) (x .key)) (x .now)
+taken-word (choose x) s = chosen-word (s .port) (getD (s .list) (pickAt (s .list) (s .port) (x .now) .slot) blank) (pickAt (s .list) (s .port) (x .now)) (x .now)
+taken-word (opened x) s = choice (isCancelled (onPhy (s .list) (s .port) (x .phy))) Close Send refl refl
+taken-word (openFailed x) s = failed-word (s .port) (onPhy (s .list) (s .port) (x .phy)) (reasonOf (x .why)) (x .now)
+taken-word (frameStatus x) s = choice (isCancelled (onPhy (s .list) (s .port) (x .phy))) CancelAcknowledged (Status (x .status)) refl refl
+taken-word (closed x) s =
     choice (names (phyAt (s .port) (x .phy))) (cond (isCancelled (onPhy (s .list) (s .port) (x .phy))) CancelAcknowledged ConnectionLost) Taken
     (choice (isCancelled (onPhy (s .list) (s .port) (x .phy))) CancelAcknowledged ConnectionLost refl refl) refl
-taken (enable x) s = refl
-taken (disable x) s =
+taken-word (enable x) s = refl
+taken-word (disable x) s =
     choice (names (phyAt (s .port) (x .phy))) (cond (isCancelled (onPhy (s .list) (s .port) (x .phy))) CancelAcknowledged Waiting) Taken
     (choice (isCancelled (onPhy (s .list) (s .port) (x .phy))) CancelAcknowledged Waiting refl refl) refl
 
 apart : (c : Call) (s : State) (k : Refusal) → goesOn c s ≡ Refused k → ⊥
-apart c s k e = never (sym (taken c s) ∙ ap isRefused e)
+apart c s k e = never (sym (taken-word c s) ∙ ap isRefused e)
 
 one : (j k : Refusal) → Refused j ≡ Refused k → j ≡ k
 one j k e = cc

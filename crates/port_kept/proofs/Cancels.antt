@@ -2,7 +2,7 @@
 -- Assumes nothing.
 use Prim.Native.Nat.{ℕ, _≤_, _<_}
 use mathlib.Core.Path.{_≡_, refl}
-use mathlib.Core.Bool.{true, false, cond}
+use mathlib.Core.Bool.{true, false}
 use mathlib.Core.Logic.{inl, inr}
 use mathlib.Core.List.{List}
 use native.Mathlib.Omega.{arith}
@@ -14,16 +14,16 @@ use Rattle.port_parts.specs.declared.Phy.{Phy}
 use Rattle.port_parts.specs.declared.Port.{Port}
 use Rattle.port_parts.specs.declared.Request.{Request}
 use Rattle.port_rules.specs.Kept.{PhyKept, Free, Present, Kept}
-use Rattle.port_core.specs.Answers.{later, withPhy, stagedPhy, unchanged, told}
+use Rattle.port_core.specs.Answers.{stagedPhy, unchanged}
 use Rattle.port_core.specs.Calls.{marked, phyAt, closedPhy, cancelled}
 use Rattle.port_core.specs.declared.Done.{Done}
-use Rattle.port_core.specs.declared.Word.the-variants.{CancelAcknowledged, StopArb, Close}
 use Rattle.port.specs.Calls.{leftOf}
 use Rattle.port_kept.proofs.Changes.{changed}
 use Rattle.port_kept.proofs.Enters.{free-enters, same-enters}
-use Rattle.port_kept.proofs.Holds.{old-retry, old-first, old-loss, present-as, busy-kept, present-at, number-low}
+use Rattle.port_kept.proofs.Holds.{old-retry, old-first, old-loss, present-as, busy-kept, present-at, in-progress, its-phy, its-name, number-low}
 use Rattle.port_kept.proofs.Lates.{waits-on}
 use Rattle.port_kept.proofs.Links.{stay}
+use Rattle.port_kept.proofs.Ways.{endedBy, stoppedBy, by-cancelled}
 
 marked-present : (r : Request) (last now : ℕ) → last ≤ now → r .stage ≡ 2 → Present r last → Present (marked r 1 (r .closed)) now
 marked-present r last now on busy was =
@@ -36,28 +36,27 @@ module _ (p : Port) (l : List Request) (size : length l ≡ 32) (eight : length 
   abbrev f : Phy
   f = phyAt p (r .phy)
 
+  abbrev Keeps : Done → Type 0
+  Keeps d = Kept (d .port) (leftOf l d)
+
   held : Present r (p .last)
   held = present-at p l was i low there
 
-  freed : isWaiting r ≡ true → Kept (later p now) (leftOf l (told (later p now) CancelAcknowledged i 8 r blank unchanged))
+  freed : isWaiting r ≡ true → Keeps (endedBy p r i now)
   freed w =
-      let d = told (later p now) CancelAcknowledged i 8 r blank unchanged in
+      let d = endedBy p r i now in
       let waits = eqb-true (r .stage) 1 w in
       waits-on p l size eight was (d .answer) blank now on (λ h e. omega arith) (λ e. omega arith) (λ h. free-enters p l i unchanged now) (d .port)
 
   module _ (off : isWaiting r ≡ false) where
-    -- a request that doesn't wait is in progress, and its phy names it
     busy : r .stage ≡ 2
-    busy = by there (held .flags .stage) (eqb-false (r .stage) 1 off)
-      where
-        by : {n : ℕ} → (n ≡ 0 → ⊥) → n ≤ 2 → (n ≡ 1 → ⊥) → n ≡ 2
-        by a b c = omega arith
+    busy = in-progress p l was i low there (eqb-false (r .stage) 1 off)
 
     in-port : r .phy < 8
-    in-port = was .requests i low .paired .phy busy
+    in-port = its-phy p l was i low busy
 
     named : f .slot ≡ i
-    named = was .requests i low .paired .each (r .phy) in-port .1 (busy, refl)
+    named = its-name p l was i low busy
 
     closed-kept : PhyKept (p .count) (closedPhy f) (r .phy)
     closed-kept = by-test (λ (n : ℕ). PhyKept (p .count) (stagedPhy n (f .slot) f) (r .phy)) (isSending f) sending same
@@ -73,7 +72,7 @@ module _ (p : Port) (l : List Request) (size : length l ≡ 32) (eight : length 
         same : isSending f ≡ false → PhyKept (p .count) (stagedPhy (f .stage) (f .slot) f) (r .phy)
         same s = record { stage = old .stage; protocol = old .protocol; slot = old .slot; must = old .must; may = old .may; past = old .past }
 
-    marks : let d = told (withPhy p (r .phy) (closedPhy f) now) (cond (isOpening f) StopArb Close) i (r .phy) r (marked r 1 (r .closed)) unchanged in Kept (d .port) (leftOf l d)
+    marks : Keeps (stoppedBy p r i now (isOpening f))
     marks =
         changed p l size eight was (r .phy) (closedPhy f) (d .answer) (marked r 1 (r .closed)) unchanged now (record {
           number = in-port;
@@ -85,8 +84,7 @@ module _ (p : Port) (l : List Request) (size : length l ≡ 32) (eight : length 
         }) (d .port)
       where
         d : Done
-        d = told (withPhy p (r .phy) (closedPhy f) now) (cond (isOpening f) StopArb Close) i (r .phy) r (marked r 1 (r .closed)) unchanged
+        d = stoppedBy p r i now (isOpening f)
 
-  pub cancel-keeps : Kept (cancelled p r i now .port) (leftOf l (cancelled p r i now))
-  unfolding cancelled
-  cancel-keeps = by-test (λ (d : Done). Kept (d .port) (leftOf l d)) (isWaiting r) freed marks
+  pub cancel-keeps : Keeps (cancelled p r i now)
+  cancel-keeps = by-cancelled Keeps p r i now freed marks

@@ -1,15 +1,15 @@
 -- A call changes one phy, one record and perhaps a destination's loss timer, and never turns the time back. So the rules hold afterwards
 -- if they hold of that phy and that record: everything else is as it was. Assumes nothing.
 use Prim.Native.Nat.{ℕ, _≤_, _<_}
-use mathlib.Core.Path.{_≡_, refl, sym, ap, subst, _∙_}
-use mathlib.Core.Bool.{Bool, true, false, cond}
+use mathlib.Core.Path.{_≡_, refl, sym, subst, _∙_}
+use mathlib.Core.Bool.{Bool, true, false}
 use mathlib.Core.Logic.{_⊎_, inl, inr, _↔_}
 use mathlib.Core.List.{List}
 use native.Mathlib.Omega.{arith}
 use lib.Dec.{eqb}
 use lib.ListN.{length, getD}
 use lib.Seq.{getD-set-same, getD-set-other}
-use borrow.Author.Tests.{eqb-true, eqb-false, eq-eqb, ne-eqb}
+use borrow.Author.Tests.{eqb-true, eqb-false}
 use Rattle.port_parts.specs.Parts.{noPhy, blank}
 use Rattle.port_parts.specs.declared.Phy.{Phy}
 use Rattle.port_parts.specs.declared.Port.{Port}
@@ -21,7 +21,7 @@ use Rattle.port_core.specs.declared.Answer.{Answer}
 use Rattle.port_core.specs.declared.Done.{Done}
 use Rattle.port_core.specs.declared.Loss.{Loss}
 use Rattle.port.specs.Calls.{spread, leftOf}
-use Rattle.port.proofs.Begins.{left-at}
+use Rattle.port.proofs.Begins.{left-here, left-there}
 use Rattle.port_kept.proofs.Holds.{Dated}
 use Rattle.port_kept.proofs.Links.{On, Linked}
 use Rattle.port_kept.proofs.Spreads.{apart-back, spread-stage, spread-phy, spread-present, spread-apart}
@@ -75,10 +75,10 @@ module _ (p : Port) (l : List Request) where
     phy-there j n = getD-set-other (p .phys) k j g noPhy n
 
     here : i < 32 → getD list i blank ≡ e
-    here h = left-at l (stored q a e x) i size h ∙ ap (λ (t : Bool). cond t e (spread x (at i))) (eq-eqb i i refl)
+    here = left-here l (stored q a e x) size refl
 
     there : (j : ℕ) → j < 32 → (j ≡ i → ⊥) → getD list j blank ≡ spread x (at j)
-    there j h n = left-at l (stored q a e x) j size h ∙ ap (λ (t : Bool). cond t e (spread x (at j))) (ne-eqb j i n)
+    there = left-there l (stored q a e x) size refl
 
     -- ---- each rule
 

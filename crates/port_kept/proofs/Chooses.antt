@@ -5,9 +5,7 @@ use mathlib.Core.Path.{_≡_, refl, sym, subst}
 use mathlib.Core.Logic.{inl, inr}
 use mathlib.Core.List.{List}
 use native.Mathlib.Omega.{arith}
-use lib.Dec.{eqb}
 use lib.ListN.{length, getD}
-use borrow.Author.Tests.{eqb-true}
 use Rattle.laws.proofs.Bools.{never, by-test}
 use Rattle.open_frame.specs.declared.Awt.{Awt}
 use Rattle.open_frame.specs.declared.Pbc.{Pbc}
@@ -29,6 +27,7 @@ use Rattle.port_kept.proofs.Enters.{same-enters}
 use Rattle.port_kept.proofs.Holds.{Dated, dated-now, old-retry, old-first, old-loss, present-as, busy-kept, rests-kept, no-need, present-at, number-low, names-none}
 use Rattle.port_kept.proofs.Lates.{waits-on}
 use Rattle.port_kept.proofs.Links.{Linked, join, alone}
+use Rattle.port_kept.proofs.Ways.{by-chosen, waits}
 
 -- the new records
 module _ (r : Request) (last now : ℕ) (on : last ≤ now) (was : Present r last) where
@@ -44,21 +43,21 @@ module _ (r : Request) (last now : ℕ) (on : last ≤ now) (was : Present r las
   closing-present =
       present-as r last now on was (marked r (r .cancelled) 1) refl refl (was .flags .stage) (was .flags .cancelled) (was .cancelled) (omega arith) (old-retry r last now on was) (old-first r last now on was) (old-loss r last now on was) (was .loss)
 
--- what a step asks of the request and of the phy
-send-asks : {now : ℕ} {r : Request} {f : Phy} {step : ℕ} → Qualifies now r f step → step ≡ 1 → (r .stage ≡ 1) × (f .stage ≡ 3)
-send-asks (sends e ready stage reach) d = (ready .0, stage)
+-- what a step asks of the phy
+send-asks : {now : ℕ} {r : Request} {f : Phy} {step : ℕ} → Qualifies now r f step → step ≡ 1 → f .stage ≡ 3
+send-asks (sends e ready stage reach) d = stage
 send-asks (opens e ready stage) d = absurd (omega arith)
 send-asks (closes e ready stage reach closed) d = absurd (omega arith)
 
-open-asks : {now : ℕ} {r : Request} {f : Phy} {step : ℕ} → Qualifies now r f step → step ≡ 2 → (r .stage ≡ 1) × (f .stage ≡ 1)
+open-asks : {now : ℕ} {r : Request} {f : Phy} {step : ℕ} → Qualifies now r f step → step ≡ 2 → f .stage ≡ 1
 open-asks (sends e ready stage reach) d = absurd (omega arith)
-open-asks (opens e ready stage) d = (ready .0, stage)
+open-asks (opens e ready stage) d = stage
 open-asks (closes e ready stage reach closed) d = absurd (omega arith)
 
-close-asks : {now : ℕ} {r : Request} {f : Phy} {step : ℕ} → Qualifies now r f step → step ≡ 3 → (r .stage ≡ 1) × (f .stage ≡ 3)
+close-asks : {now : ℕ} {r : Request} {f : Phy} {step : ℕ} → Qualifies now r f step → step ≡ 3 → f .stage ≡ 3
 close-asks (sends e ready stage reach) d = absurd (omega arith)
 close-asks (opens e ready stage) d = absurd (omega arith)
-close-asks (closes e ready stage reach closed) d = (ready .0, stage)
+close-asks (closes e ready stage reach closed) d = stage
 
 module _ (p : Port) (l : List Request) (size : length l ≡ 32) (eight : length (p .phys) ≡ 8) (was : Kept p l) (now : ℕ) (on : p .last ≤ now) where
   abbrev Keeps : Done → Type 0
@@ -141,6 +140,6 @@ module _ (p : Port) (l : List Request) (size : length l ≡ 32) (eight : length 
   unfolding chosen
   choose-keeps b (none nil) = idle-keeps
   choose-keeps b (one w) =
-      by-test Keeps (eqb (b .step) 1) (λ t. let asks = send-asks (w .fits) (eqb-true (b .step) 1 t) in sent-keeps b (w .slot) (w .phy) (asks .0) (asks .1))
-      (λ t. by-test Keeps (eqb (b .step) 2) (λ u. let asks = open-asks (w .fits) (eqb-true (b .step) 2 u) in open-keeps b (w .slot) (w .phy) (asks .0) (asks .1))
-      (λ u. by-test Keeps (eqb (b .step) 3) (λ v. let asks = close-asks (w .fits) (eqb-true (b .step) 3 v) in close-keeps b (w .slot) (w .phy) (asks .0) (asks .1)) (λ v. idle-keeps)))
+      let ready = waits (w .fits) in
+      by-chosen Keeps p (getD l (b .slot) blank) b now (λ e. sent-keeps b (w .slot) (w .phy) ready (send-asks (w .fits) e)) (λ e. open-keeps b (w .slot) (w .phy) ready (open-asks (w .fits) e))
+      (λ e. close-keeps b (w .slot) (w .phy) ready (close-asks (w .fits) e)) idle-keeps

@@ -2,14 +2,11 @@
 -- are joined from facts about numbers, most of which a call leaves. Assumes nothing.
 use Prim.Native.Nat.{ℕ, _≤_, _<_}
 use mathlib.Core.Path.{_≡_, refl, sym, subst, _∙_}
-use mathlib.Core.Bool.{true, _&&_}
+use mathlib.Core.Bool.{true}
 use mathlib.Core.Logic.{_⊎_, inl, inr}
 use mathlib.Core.List.{List}
 use native.Mathlib.Omega.{arith}
-use lib.Dec.{ltb, leb}
 use lib.ListN.{getD}
-use borrow.Author.Tests.{ltb-true}
-use Rattle.laws.proofs.Bools.{and-left, and-right}
 use Rattle.open_frame.specs.Open.{headListed}
 use Rattle.open_frame.specs.declared.Head.{Head}
 use Rattle.port_parts.specs.Parts.{none, stamped, blank}
@@ -22,11 +19,6 @@ use Rattle.port_core.specs.Calls.{phyAt, timed}
 use Rattle.port_kept.proofs.Links.{On}
 
 -- ---- records
-
-pub low-protocol : (h : Head) → headListed h ≡ true → h .protocol < 3
-low-protocol h e =
-    let behind = and-right (ltb (h .initiator) 2) (ltb (h .protocol) 3 && (ltb (h .features) 16 && (leb 8 (h .rate) && ltb (h .rate) 11))) e in
-    ltb-true (h .protocol) 3 (and-left (ltb (h .protocol) 3) (ltb (h .features) 16 && (leb 8 (h .rate) && ltb (h .rate) 11)) behind)
 
 -- a stamp that may stand in a record at the time `now`
 abbrev pub Dated : ℕ → Stamp → Type 0
@@ -92,6 +84,19 @@ module _ (p : Port) (l : List Request) (was : Kept p l) where
       by : Free (getD l i blank) ⊎ Present (getD l i blank) (p .last) → Present (getD l i blank) (p .last)
       by (inl free) = absurd (there free)
       by (inr held) = held
+
+  -- a request that doesn't wait is in progress on one of the phys, which names it
+  pub in-progress : (i : ℕ) → i < 32 → (Free (getD l i blank) → ⊥) → (getD l i blank .stage ≡ 1 → ⊥) → getD l i blank .stage ≡ 2
+  in-progress i h there moves = by there moves (present-at i h there .flags .stage)
+    where
+      by : {n : ℕ} → (n ≡ 0 → ⊥) → (n ≡ 1 → ⊥) → n ≤ 2 → n ≡ 2
+      by a b c = omega arith
+
+  pub its-phy : (i : ℕ) → i < 32 → getD l i blank .stage ≡ 2 → getD l i blank .phy < 8
+  its-phy i h = was .requests i h .paired .phy
+
+  pub its-name : (i : ℕ) → i < 32 → getD l i blank .stage ≡ 2 → phyAt p (getD l i blank .phy) .slot ≡ i
+  its-name i h busy = was .requests i h .paired .each (getD l i blank .phy) (its-phy i h busy) .1 (busy, refl)
 
   module _ (k : ℕ) (low : k < p .count) where
     pub in-port : k < 8

@@ -8,12 +8,11 @@ use native.Mathlib.Omega.{arith}
 use lib.Dec.{eqb, leb, ltb}
 use lib.ListN.{length, getD, set, length-set, length-replicate}
 use borrow.Author.Tests.{eqb-true, eqb-false, ltb-true, ltb-false, leb-false, not-true, not-false}
-use Rattle.laws.proofs.Bools.{never, nor, and-left, by-test}
+use Rattle.laws.proofs.Bools.{never, nor, and-left}
 use Rattle.laws.proofs.Finds.{Found, none, at}
-use Rattle.refusals.specs.Causes.{Decides, cons}
 use Rattle.refusals.proofs.Causes.{NoneGiven}
 use Rattle.open_frame.specs.Open.{headListed}
-use Rattle.port_parts.specs.Parts.{off, blank, isFree, isWaiting, isOpening, isDisabled}
+use Rattle.port_parts.specs.Parts.{off, blank, isFree, isOpening, isDisabled}
 use Rattle.port_parts.specs.Reasons.{reasonOf}
 use Rattle.port_parts.specs.declared.Phy.{Phy}
 use Rattle.port_parts.specs.declared.Pick.{Pick}
@@ -21,67 +20,50 @@ use Rattle.port_parts.specs.declared.Port.{Port}
 use Rattle.port_parts.specs.declared.Request.{Request}
 use Rattle.port_parts.proofs.Choices.{choose-right}
 use Rattle.port_rules.specs.Rules.{inRange, rules, hasFrameOut}
-use Rattle.port_rules.specs.Kept.{Free, Kept}
+use Rattle.port_rules.specs.Kept.{Free}
 use Rattle.port_rules.proofs.Facts.{range-says}
 use Rattle.port_core.specs.Calls.{phyAt, isCancelled, isJoined, cancelled, chosen, phyCauses}
 use Rattle.port_core.specs.Finds.{roomOf, hasKey, keyOf}
 use Rattle.port_core.specs.declared.Done.{Done}
 use Rattle.port_core.specs.declared.Key.{Key}
-use Rattle.port_core.specs.declared.Wish.{Wish}
 use Rattle.port.specs.Calls.{pickAt}
 use Rattle.port.specs.History.{State, Call, setup, submit, cancel, choose, opened, openFailed, frameStatus, closed, enable, disable, steppedBy, isRefused, leave}
-use Rattle.port.specs.Grounds as grounds
-use Rattle.port.specs.Grounds.{groundsOf}
 use Rattle.port.proofs.Begins.{setup-kept}
-use Rattle.port.proofs.Refusals.{lowest-free, key-found, causesOf, decides, takenOf}
+use Rattle.port.proofs.Refusals.{lowest-free, present-says, key-found, causesOf, takenOf}
+use Rattle.port_kept.specs.Sound.{Sound}
 use Rattle.port_kept.proofs.Cancels.{cancel-keeps}
 use Rattle.port_kept.proofs.Chooses.{choose-keeps}
 use Rattle.port_kept.proofs.Leaves.{by-call}
 use Rattle.port_kept.proofs.Opens.{opened-keeps, failed-keeps}
 use Rattle.port_kept.proofs.Parted.{enable-keeps, disable-keeps, closed-keeps, status-keeps}
 use Rattle.port_kept.proofs.Submits.{submit-keeps}
+use Rattle.port_kept.proofs.Ways.{by-cancelled, by-chosen}
 
 -- ---- what the scans of submit and cancel found
 
--- no request has the key of a submit that isn't refused
-absent : (x : Wish) (s : State) → roomOf (s .list) (x .head) .same ≡ false → grounds.Present (s .list) (x .head) → ⊥
-unfolding causesOf
-absent x s off there = by (decides (submit x) s)
-  where
-    by : Decides (causesOf (submit x) s) (groundsOf (submit x) s) → ⊥
-    by (cons size (cons listed (cons kept (cons past (cons present rest))))) = never (sym off ∙ present .1 there)
-
-free-there : (l : List Request) (n : ℕ) → Found blank isFree l 32 32 n → n < 32 → Free (getD l n blank)
+pub free-there : (l : List Request) (n : ℕ) → Found blank isFree l 32 32 n → n < 32 → Free (getD l n blank)
 free-there l n (none e nil) h = absurd (omega arith)
 free-there l n (at m t nil) h = eqb-true (getD l n blank .stage) 0 t
 
-key-there : (l : List Request) (x : Key) (n : ℕ) → Found blank (λ r. hasKey r x) l 32 32 n → n < 32 → Free (getD l n blank) → ⊥
+pub key-there : (l : List Request) (x : Key) (n : ℕ) → Found blank (λ r. hasKey r x) l 32 32 n → n < 32 → Free (getD l n blank) → ⊥
 key-there l x n (none e nil) h = absurd (omega arith)
 key-there l x n (at m t nil) h = eqb-false (getD l n blank .stage) 0 (not-true (isFree (getD l n blank)) (and-left (not (isFree (getD l n blank))) _ t))
 
 -- ---- eight phys stay eight
 
-cancelled-eight : (p : Port) (r : Request) (s now : ℕ) → length (p .phys) ≡ 8 → length (cancelled p r s now .port .phys) ≡ 8
-unfolding cancelled
-cancelled-eight p r s now eight = by-test (λ (d : Done). length (d .port .phys) ≡ 8) (isWaiting r) (λ t. eight) (λ t. length-set (p .phys) _ _ ∙ eight)
+abbrev Eight : Done → Type 0
+Eight d = length (d .port .phys) ≡ 8
 
-chosen-eight : (p : Port) (r : Request) (b : Pick) (now : ℕ) → length (p .phys) ≡ 8 → length (chosen p r b now .port .phys) ≡ 8
-unfolding chosen
-chosen-eight p r b now eight =
-    by-test Eight (eqb (b .step) 1) (λ t. length-set (p .phys) _ _ ∙ eight) (λ t. by-test Eight (eqb (b .step) 2) (λ t. length-set (p .phys) _ _ ∙ eight) (λ t. by-test Eight (eqb (b .step) 3) (λ t. length-set (p .phys) _ _ ∙ eight) (λ t. eight)))
-  where
-    Eight : Done → Type 0
-    Eight d = length (d .port .phys) ≡ 8
+cancelled-eight : (p : Port) (r : Request) (s now : ℕ) → length (p .phys) ≡ 8 → Eight (cancelled p r s now)
+cancelled-eight p r s now eight = by-cancelled Eight p r s now (λ t. eight) (λ t. length-set (p .phys) _ _ ∙ eight)
+
+chosen-eight : (p : Port) (r : Request) (b : Pick) (now : ℕ) → length (p .phys) ≡ 8 → Eight (chosen p r b now)
+chosen-eight p r b now eight = by-chosen Eight p r b now (λ t. length-set (p .phys) _ _ ∙ eight) (λ t. length-set (p .phys) _ _ ∙ eight) (λ t. length-set (p .phys) _ _ ∙ eight) eight
 
 -- ---- the calls
 
 is-32 : (l : List Request) → not (eqb (length l) 32) ≡ false → length l ≡ 32
 is-32 l e = eqb-true (length l) 32 (not-false (eqb (length l) 32) e)
-
--- a state that the next call takes: eight phys, which its type says, and the rules
-pub record Sound (s : State) : Type 0 where
-  pub eight : length (s .port .phys) ≡ 8
-  pub kept : Kept (s .port) (s .list)
 
 -- an accepted setup leaves one, whatever it was lent
 pub setup-sound : (count loss : ℕ) (s : State) → (isRefused (steppedBy (setup count loss) s .answer .word) ≡ true → Sound s) → Sound (leave (setup count loss) s)
@@ -90,16 +72,16 @@ setup-sound count loss s stays =
     by-call (setup count loss) s Sound stays
     (λ passed. record { eight = length-replicate 8 off; kept = setup-kept count loss (s .list) (is-32 (s .list) (passed .0)) (range-says count loss .0 (not-false (inRange count loss) (passed .1 .0))) })
 
+-- what a phy's call that is taken found: the phy is one of the port's, the time has come, and the call fits
+pub phy-ok : (p : Port) (l : List Request) (k now : ℕ) (unfit : Bool) → NoneGiven (phyCauses p (rules p l) k now unfit) → (k < p .count) × ((p .last ≤ now) × (unfit ≡ false))
+phy-ok p l k now unfit passed = (ltb-true k (p .count) (not-false (ltb k (p .count)) (passed .1 .0)), (ltb-false now (p .last) (passed .1 .1 .0), passed .1 .1 .1 .0))
+
 module _ (s : State) (was : Sound s) where
   abbrev p : Port
   p = s .port
 
   abbrev l : List Request
   l = s .list
-
-  -- what a phy's call that is taken found: the phy is one of the port's, the time has come, and the call fits
-  phy-ok : (k now : ℕ) (unfit : Bool) → NoneGiven (phyCauses p (rules p l) k now unfit) → (k < p .count) × ((p .last ≤ now) × (unfit ≡ false))
-  phy-ok k now unfit passed = (ltb-true k (p .count) (not-false (ltb k (p .count)) (passed .1 .0)), (ltb-false now (p .last) (passed .1 .1 .0), passed .1 .1 .1 .0))
 
   in-stage : (k n : ℕ) → not (eqb (phyAt p k .stage) n) ≡ false → phyAt p k .stage ≡ n
   in-stage k n fit = eqb-true (phyAt p k .stage) n (not-false (eqb (phyAt p k .stage) n) fit)
@@ -114,7 +96,7 @@ module _ (s : State) (was : Sound s) where
       by-call (submit x) s Sound (λ e. was) (λ passed. record {
         eight = was .eight;
         kept =
-            submit-keeps p l (is-32 l (passed .0)) (was .eight) (was .kept) x (ltb-false (x .now) (p .last) (passed .1 .1 .1 .0)) (not-false (headListed (x .head)) (passed .1 .0)) (absent x s (passed .1 .1 .1 .1 .0))
+            submit-keeps p l (is-32 l (passed .0)) (was .eight) (was .kept) x (ltb-false (x .now) (p .last) (passed .1 .1 .1 .0)) (not-false (headListed (x .head)) (passed .1 .0)) (λ there. never (sym (passed .1 .1 .1 .1 .0) ∙ present-says l (x .head) .1 there))
             (free-there l (roomOf l (x .head) .free) (lowest-free l (x .head)));
       })
   keeps (cancel x) =
@@ -141,25 +123,25 @@ module _ (s : State) (was : Sound s) where
       b = pickAt l p (x .now)
   keeps (opened x) =
       by-call (opened x) s Sound (λ e. was) (λ passed.
-      let ok = phy-ok (x .phy) (x .now) (not (isOpening (phyAt p (x .phy)))) (passed .1) in
+      let ok = phy-ok p l (x .phy) (x .now) (not (isOpening (phyAt p (x .phy)))) (passed .1) in
       record { eight = eight-set (x .phy) _; kept = opened-keeps p l (is-32 l (passed .0)) (was .eight) (was .kept) (x .phy) (x .now) (ok .0) (ok .1 .0) (in-stage (x .phy) 2 (ok .1 .1)) })
   keeps (openFailed x) =
       by-call (openFailed x) s Sound (λ e. was) (λ passed.
-      let ok = phy-ok (x .phy) (x .now) (not (isOpening (phyAt p (x .phy)))) (passed .1 .1) in
+      let ok = phy-ok p l (x .phy) (x .now) (not (isOpening (phyAt p (x .phy)))) (passed .1 .1) in
       record { eight = eight-set (x .phy) _; kept = failed-keeps p l (is-32 l (passed .0)) (was .eight) (was .kept) (x .phy) (x .now) (ok .0) (ok .1 .0) (in-stage (x .phy) 2 (ok .1 .1)) (reasonOf (x .why)) })
   keeps (frameStatus x) =
       by-call (frameStatus x) s Sound (λ e. was) (λ passed.
-      let ok = phy-ok (x .phy) (x .now) (not (hasFrameOut (phyAt p (x .phy)))) (passed .1) in
+      let ok = phy-ok p l (x .phy) (x .now) (not (hasFrameOut (phyAt p (x .phy)))) (passed .1) in
       record { eight = eight-set (x .phy) _; kept = status-keeps p l (is-32 l (passed .0)) (was .eight) (was .kept) (x .phy) (x .now) (ok .0) (ok .1 .0) (x .status) })
   keeps (closed x) =
       by-call (closed x) s Sound (λ e. was) (λ passed.
-      let ok = phy-ok (x .phy) (x .now) (not (isJoined (phyAt p (x .phy)))) (passed .1) in
+      let ok = phy-ok p l (x .phy) (x .now) (not (isJoined (phyAt p (x .phy)))) (passed .1) in
       record { eight = eight-set (x .phy) _; kept = closed-keeps p l (is-32 l (passed .0)) (was .eight) (was .kept) (x .phy) (x .now) (ok .0) (ok .1 .0) })
   keeps (enable x) =
       by-call (enable x) s Sound (λ e. was) (λ passed.
-      let ok = phy-ok (x .phy) (x .now) (not (isDisabled (phyAt p (x .phy)))) (passed .1) in
+      let ok = phy-ok p l (x .phy) (x .now) (not (isDisabled (phyAt p (x .phy)))) (passed .1) in
       record { eight = eight-set (x .phy) _; kept = enable-keeps p l (is-32 l (passed .0)) (was .eight) (was .kept) (x .phy) (x .now) (ok .0) (ok .1 .0) (in-stage (x .phy) 0 (ok .1 .1)) })
   keeps (disable x) =
       by-call (disable x) s Sound (λ e. was) (λ passed.
-      let ok = phy-ok (x .phy) (x .now) (isDisabled (phyAt p (x .phy))) (passed .1) in
+      let ok = phy-ok p l (x .phy) (x .now) (isDisabled (phyAt p (x .phy))) (passed .1) in
       record { eight = eight-set (x .phy) _; kept = disable-keeps p l (is-32 l (passed .0)) (was .eight) (was .kept) (x .phy) (x .now) (ok .0) (ok .1 .0) })

@@ -1,7 +1,8 @@
 -- No call of the port leaves a state that breaks the rules.
+pub mod Ways
 mod Links
-mod Holds
-mod Spreads
+pub mod Holds
+pub mod Spreads
 mod Changes
 mod Enters
 mod Parted
@@ -11,5 +12,5 @@ mod Cancels
 mod Chooses
 mod Submits
 pub mod Leaves
-mod Keeps
+pub mod Keeps
 pub mod Runs

@@ -9,6 +9,7 @@ use native.Mathlib.Omega.{arith}
 use lib.ListN.{length}
 use borrow.Author.Tests.{eqb-true, eqb-false, eq-eqb, not-true}
 use Rattle.laws.proofs.Bools.{and-left, and-right, by-test}
+use Rattle.open_frame.proofs.Fields.{listed-is}
 use Rattle.port_parts.specs.Parts.{none, stamped, isSet, blank, isSsp}
 use Rattle.port_parts.specs.Reasons.{isBlocked, isStarting, isStopping}
 use Rattle.port_parts.specs.Timer.{timerBy}
@@ -24,7 +25,7 @@ use Rattle.port_core.specs.declared.Done.{Done}
 use Rattle.port.specs.Calls.{leftOf, onPhy}
 use Rattle.port_kept.proofs.Changes.{Entered, changed}
 use Rattle.port_kept.proofs.Enters.{free-enters, timed-enters}
-use Rattle.port_kept.proofs.Holds.{low-protocol, Dated, dated-none, dated-now, old-first, old-loss, present-as, present-timed, busy-kept, in-port, phy-kept, on-it, its-present}
+use Rattle.port_kept.proofs.Holds.{Dated, dated-none, dated-now, old-first, old-loss, present-as, present-timed, busy-kept, in-port, phy-kept, on-it, its-present}
 use Rattle.port_kept.proofs.Links.{stay}
 use Rattle.port_kept.proofs.Parted.{parted, idle-kept}
 use Rattle.port_kept.proofs.Spreads.{Follows}
@@ -101,7 +102,7 @@ module _ (p : Port) (l : List Request) (size : length l ≡ 32) (eight : length 
   joined-kept = by-test (λ (n : ℕ). PhyKept (p .count) (joinedPhy n (f .slot) (r .head)) k) (isCancelled r) (λ e. kept 5 (omega arith) (inr refl)) (λ e. kept 4 (omega arith) (inl (inr (inl refl))))
     where
       kept : (n : ℕ) → n ≤ 6 → MustName (joinedPhy n (f .slot) (r .head)) ⊎ (n ≡ 5) → PhyKept (p .count) (joinedPhy n (f .slot) (r .head)) k
-      kept n most may = busy-kept (p .count) (joinedPhy n (f .slot) (r .head)) k low most (low-protocol (r .head) (held .fields)) named may
+      kept n most may = busy-kept (p .count) (joinedPhy n (f .slot) (r .head)) k low most (listed-is (r .head) (held .fields) .protocol) named may
 
   pub opened-keeps : let d = connected p f r (record { phy = k; now = now }) in Kept (d .port) (leftOf l d)
   opened-keeps =

@@ -14,16 +14,16 @@ use Rattle.port_parts.specs.declared.Phy.{Phy}
 use Rattle.port_parts.specs.declared.Port.{Port}
 use Rattle.port_parts.specs.declared.Request.{Request}
 use Rattle.port_rules.specs.Kept.{PhyKept, Present, Kept}
-use Rattle.port_core.specs.Answers.{withPhy, idlePhy, stagedPhy, unchanged, told}
+use Rattle.port_core.specs.Answers.{withPhy, idlePhy, stagedPhy, unchanged}
 use Rattle.port_core.specs.Calls.{placed, phyAt, isCancelled, framed, closedDone, disabledDone}
 use Rattle.port_core.specs.declared.Answer.{Answer}
 use Rattle.port_core.specs.declared.Confirmed.{Confirmed}
 use Rattle.port_core.specs.declared.Loss.{Loss}
-use Rattle.port_core.specs.declared.Word.the-variants.{Taken}
 use Rattle.port.specs.Calls.{leftOf, onPhy}
 use Rattle.port_kept.proofs.Changes.{stored, Entered, changed}
 use Rattle.port_kept.proofs.Enters.{free-enters, same-enters}
 use Rattle.port_kept.proofs.Holds.{Dated, old-retry, old-first, old-loss, present-as, rests-kept, no-need, in-port, phy-kept, on-it, its-present, names-none}
+use Rattle.port_kept.proofs.Ways.{enabledBy}
 use Rattle.port_kept.proofs.Links.{On, part}
 
 -- a request that isn't cancelled waits again
@@ -38,6 +38,9 @@ module _ (p : Port) (l : List Request) (size : length l ≡ 32) (eight : length 
 
   abbrev r : Request
   r = onPhy l p k
+
+  abbrev x : Confirmed
+  x = record { phy = k; now = now }
 
   -- the phy becomes g, which names none, and its request becomes e
   pub parted : (g : Phy) → PhyKept (p .count) g k → (g .slot < 32 → ⊥) → (a : Answer) → f .slot ≡ a .slot → (e : Request) → (e .stage ≡ 2 → ⊥) → (x : Loss) → (x .change ≡ true → Dated now (x .timer))
@@ -65,10 +68,10 @@ module _ (p : Port) (l : List Request) (size : length l ≡ 32) (eight : length 
   staged-kept : (n : ℕ) → n ≤ 6 → (n ≡ 2 → ⊥) → (n ≡ 4 → ⊥) → (n ≡ 6 → ⊥) → PhyKept (p .count) (stagedPhy n 32 f) k
   staged-kept n most a b c = rests-kept (p .count) (stagedPhy n 32 f) k low most (phy-kept p l was k low .protocol) refl (no-need (stagedPhy n 32 f) n refl a b c)
 
-  pub enable-keeps : f .stage ≡ 0 → Kept (withPhy p k idlePhy now) (leftOf l (told (withPhy p k idlePhy now) Taken 32 k r blank unchanged))
+  pub enable-keeps : f .stage ≡ 0 → Kept (withPhy p k idlePhy now) (leftOf l (enabledBy p r x))
   enable-keeps disabled =
       let none = names-none p l was k (in-port p l was k low) 0 disabled (inl (omega arith)) in
-      emptied idlePhy idle-kept (λ h. omega arith) (told (withPhy p k idlePhy now) Taken 32 k r blank unchanged .answer) (at-end none (phy-kept p l was k low .slot)) (withPhy p k idlePhy now)
+      emptied idlePhy idle-kept (λ h. omega arith) (enabledBy p r x .answer) (at-end none (phy-kept p l was k low .slot)) (withPhy p k idlePhy now)
     where
       at-end : (f .slot < 32 → ⊥) → f .slot ≤ 32 → f .slot ≡ 32
       at-end none most = omega arith
@@ -83,9 +86,6 @@ module _ (p : Port) (l : List Request) (size : length l ≡ 32) (eight : length 
 
       closing : PhyKept (p .count) (stagedPhy 5 32 f) k
       closing = staged-kept 5 (omega arith) (λ d. omega arith) (λ d. omega arith) (λ d. omega arith)
-
-  abbrev x : Confirmed
-  x = record { phy = k; now = now }
 
   pub closed-keeps : Kept (closedDone p f r x .port) (leftOf l (closedDone p f r x))
   closed-keeps = emptied idlePhy idle-kept (λ h. omega arith) (closedDone p f r x .answer) refl (closedDone p f r x .port)

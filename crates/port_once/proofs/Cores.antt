@@ -4,19 +4,18 @@
 use Prim.Native.Nat.{ℕ, suc, _≤_, _<_}
 use mathlib.Core.Path.{_≡_, refl, sym, _∙_}
 use mathlib.Core.Bool.{Bool, true, false, not, _&&_}
-use mathlib.Core.List.{List, _∷_}
+use mathlib.Core.List.{List}
 use mathlib.Core.Logic.{inl, inr}
 use native.Mathlib.Omega.{arith}
-use lib.Dec.{eqb, leb, ltb}
+use lib.Dec.{leb}
 use lib.ListN.{getD}
-use borrow.Author.Tests.{eqb-true, eq-eqb, leb-false, ltb-true, ltb-false, not-true, not-false}
-use Rattle.laws.proofs.Bools.{never, nor, and-left, by-test}
-use Rattle.laws.proofs.Tests.{Says, equal, either}
+use borrow.Author.Tests.{eqb-true, eq-eqb, leb-false, ltb-true, ltb-false, not-false}
+use Rattle.laws.proofs.Bools.{never, nor}
+use Rattle.laws.proofs.Tests.{equal, either}
 use Rattle.laws.proofs.Finds.{Found, none, at}
-use Rattle.refusals.specs.Causes.{Cause, Ground, Decides, cons}
 use Rattle.refusals.proofs.Causes.{NoneGiven}
-use Rattle.port_parts.specs.Parts.{blank, isFree, isWaiting, isSsp, isOpening, isDisabled}
-use Rattle.port_parts.specs.Qualifies.{Qualifies, sends, opens, closes, Right, none, one}
+use Rattle.port_parts.specs.Parts.{blank, isFree, isSsp, isOpening, isDisabled}
+use Rattle.port_parts.specs.Qualifies.{Right, none, one}
 use Rattle.port_parts.specs.Reasons.{reasonOf, isRetried}
 use Rattle.port_parts.specs.Timer.{isLost}
 use Rattle.port_parts.specs.declared.Phy.{Phy}
@@ -26,9 +25,9 @@ use Rattle.port_parts.specs.declared.Reason.{Reason}
 use Rattle.port_parts.specs.declared.Request.{Request}
 use Rattle.port_parts.proofs.Choices.{choose-right}
 use Rattle.port_rules.specs.Rules.{rules, names, hasFrameOut}
-use Rattle.port_rules.specs.Kept.{Free, PhyKept}
+use Rattle.port_rules.specs.Kept.{Free}
 use Rattle.port_core.specs.Calls.{placed, phyAt, isCancelled, isJoined, submitted, cancelled, sent, opening, closing, idle, chosen, connected, again, timerAfter, failed, framed, closedDone, disabledDone, submitCauses, cancelCauses, phyCauses, failedCauses}
-use Rattle.port_core.specs.Finds.{roomOf, hasKey, keyOf}
+use Rattle.port_core.specs.Finds.{roomOf, keyOf}
 use Rattle.port_core.specs.declared.Confirmed.{Confirmed}
 use Rattle.port_core.specs.declared.Done.{Done}
 use Rattle.port_core.specs.declared.Failure.{Failure}
@@ -36,24 +35,19 @@ use Rattle.port_core.specs.declared.Report.{Report}
 use Rattle.port_core.specs.declared.Wish.{Wish}
 use Rattle.port_core.specs.declared.Withdrawn.{Withdrawn}
 use Rattle.port.specs.Calls.{leftOf, onPhy, pickAt}
-use Rattle.port.specs.Grounds.{Present}
 use Rattle.port.specs.History.{State, Call, setup, submit, cancel, choose, opened, openFailed, frameStatus, closed, enable, disable, doneOf, isRefused, isLast}
 use Rattle.port.specs.declared.Moment.{Moment}
-use Rattle.port.proofs.Refusals.{lowest-free, key-found, causesOf, decides}
+use Rattle.port.proofs.Refusals.{lowest-free, present-says, key-found, causesOf, takenOf, behind}
+use Rattle.port_kept.proofs.Holds.{phy-kept, on-it}
+use Rattle.port_kept.proofs.Keeps.{key-there, phy-ok}
+use Rattle.port_kept.proofs.Leaves.{by-taken}
+use Rattle.port_kept.proofs.Ways.{submittedTo, endedBy, stoppedBy, openedBy, failedBy, framedBy, closedBy, disabledBy, enabledBy, by-cancelled, by-chosen, waits}
 use Rattle.port_once.specs.Standing.{isSetup, isSubmitted}
 use Rattle.port_once.specs.Turns.{Turns, Lawful}
 use Rattle.port_once.proofs.Records.{comes, leaves, rests}
-use Rattle.port_once.proofs.Passes.{submittedTo, endedBy, stoppedBy, openedBy, failedBy, framedBy, closedBy, disabledBy, enabledBy, causesAt, takenAt, by-taken}
 
 not-free : (r : Request) (n : ℕ) → r .stage ≡ suc n → Free r → ⊥
 not-free r n a f = omega (arith, a, f)
-
--- a test of a list of them says its ground
-first-says : {c : Cause} {g : Ground} {cs : List Cause} {gs : List Ground} → Decides (c ∷ cs) (g ∷ gs) → Says (c .given) (g .holds)
-first-says (cons d ds) = d
-
-rest-says : {c : Cause} {g : Ground} {cs : List Cause} {gs : List Ground} → Decides (c ∷ cs) (g ∷ gs) → Decides cs gs
-rest-says (cons d ds) = ds
 
 module _ (s : State) (ok : Lawful s) where
   abbrev l : List Request
@@ -68,10 +62,6 @@ module _ (s : State) (ok : Lawful s) where
 
   -- ---- submit
 
-  same-says : (x : Wish) → Says (roomOf l (x .head) .same) (Present l (x .head))
-  unfolding causesOf
-  same-says x = first-says (rest-says (rest-says (rest-says (rest-says (decides (submit x) s)))))
-
   submit-turns : (x : Wish) → NoneGiven (submitCauses p (rules p l) (roomOf l (x .head)) x) → Done-turns (submittedTo s x)
   submit-turns x pass = by (pass .1 .1 .1 .0) (leb-false 32 (roomOf l (x .head) .free) (pass .1 .1 .1 .1 .0)) (lowest-free l (x .head))
     where
@@ -79,14 +69,13 @@ module _ (s : State) (ok : Lawful s) where
       by new room (none e nowhere) = absurd (omega (arith, e, room))
       by new room (at m t low) =
           comes l (submittedTo s x) (ok .list) refl refl m (eqb-true (getD l (roomOf l (x .head) .free) blank .stage) 0 t) (λ i h free. never (sym (low i h) ∙ eq-eqb (getD l i blank .stage) 0 free))
-          (λ i h has. never (sym new ∙ same-says x .1 (record { slot = i; below = h; there = has .0; same = has .1 }))) (not-free (submitted (roomOf l (x .head)) x) 0 refl) refl
+          (λ i h has. never (sym new ∙ present-says l (x .head) .1 (record { slot = i; below = h; there = has .0; same = has .1 }))) (not-free (submitted (roomOf l (x .head)) x) 0 refl) refl
 
   -- ---- cancel
 
   cancelled-turns : (k now : ℕ) → k < 32 → (Free (getD l k blank) → ⊥) → Done-turns (cancelled p (getD l k blank) k now)
-  unfolding cancelled
   cancelled-turns k now h there =
-      by-test Done-turns (isWaiting r) (λ _. leaves l (endedBy p r k now) (ok .list) refl refl h there refl refl) (λ _. stopping (isOpening (phyAt p (r .phy))))
+      by-cancelled Done-turns p r k now (λ _. leaves l (endedBy p r k now) (ok .list) refl refl h there refl refl) (λ _. stopping (isOpening (phyAt p (r .phy))))
     where
       r : Request
       r = getD l k blank
@@ -96,83 +85,52 @@ module _ (s : State) (ok : Lawful s) where
       stopping false = rests l (stoppedBy p r k now false) (ok .list) refl refl refl (λ _. (there, (refl, (there, refl))))
 
   cancel-turns : (x : Withdrawn) → NoneGiven (cancelCauses p (getD l (keyOf l (x .key)) blank) (rules p l) (keyOf l (x .key)) x) → Done-turns (cancelled p (getD l (keyOf l (x .key)) blank) (keyOf l (x .key)) (x .now))
-  cancel-turns x pass = by (leb-false 32 (keyOf l (x .key)) (nor (leb 32 (keyOf l (x .key))) (isCancelled r) (pass .1 .1 .1 .0) .0)) (key-found l (x .key))
+  cancel-turns x pass =
+      let found : i < 32 = leb-false 32 i (nor (leb 32 i) (isCancelled (getD l i blank)) (pass .1 .1 .1 .0) .0) in
+      cancelled-turns i (x .now) found (key-there l (x .key) i (key-found l (x .key)) found)
     where
-      r : Request
-      r = getD l (keyOf l (x .key)) blank
-
-      ofKey : Bool
-      ofKey = eqb (r .head .destination) (x .key .destination) && (eqb (r .head .protocol) (x .key .protocol) && eqb (r .head .tag) (x .key .tag))
-
-      by : keyOf l (x .key) < 32 → Found blank (λ q. hasKey q (x .key)) l 32 32 (keyOf l (x .key)) → Done-turns (cancelled p r (keyOf l (x .key)) (x .now))
-      by there (none e nowhere) = absurd (omega (arith, e, there))
-      by there (at m t low) = cancelled-turns (keyOf l (x .key)) (x .now) m (λ f. never (sym (not-true (isFree r) (and-left (not (isFree r)) ofKey t)) ∙ eq-eqb (r .stage) 0 f))
+      i : ℕ
+      i = keyOf l (x .key)
 
   -- ---- choose
 
-  pub waits : (r : Request) (f : Phy) (now step : ℕ) → Qualifies now r f step → r .stage ≡ 1
-  waits r f now step (sends a ready b c) = ready .0
-  waits r f now step (opens a ready b) = ready .0
-  waits r f now step (closes a ready b c d) = ready .0
+  nothing-turns : (now : ℕ) → Done-turns (idle p now)
+  nothing-turns now = rests l (idle p now) (ok .list) refl refl refl (λ h. absurd (omega arith))
 
   chosen-turns : (now : ℕ) (b : Pick) → Right (p .phys) now l b → Done-turns (chosen p (getD l (b .slot) blank) b now)
   unfolding chosen
-  chosen-turns now b (none nowhere) = rests l (idle p now) (ok .list) refl refl refl (λ h. absurd (omega arith))
+  chosen-turns now b (none nowhere) = nothing-turns now
   chosen-turns now b (one w) =
-      let there = not-free r 0 (waits r _ now (b .step) (w .fits)) in
-      by-test Done-turns (eqb (b .step) 1)
-      (λ _. rests l (sent p r b now) (ok .list) refl refl refl (λ h. (there, (refl, (not-free (placed r 2 (b .phy)) 1 refl, refl)))))
-      (λ _. by-test Done-turns (eqb (b .step) 2)
+      let there = not-free r 0 (waits (w .fits)) in
+      by-chosen Done-turns p r b now (λ _. rests l (sent p r b now) (ok .list) refl refl refl (λ h. (there, (refl, (not-free (placed r 2 (b .phy)) 1 refl, refl)))))
       (λ _. rests l (opening p r b now) (ok .list) refl refl refl (λ h. (there, (refl, (not-free (placed r 2 (b .phy)) 1 refl, refl)))))
-      (λ _. by-test Done-turns (eqb (b .step) 3)
-      (λ _. rests l (closing p r b now) (ok .list) refl refl refl (λ h. (there, (refl, (there, refl)))))
-      (λ _. rests l (idle p now) (ok .list) refl refl refl (λ h. absurd (omega arith)))))
+      (λ _. rests l (closing p r b now) (ok .list) refl refl refl (λ h. (there, (refl, (there, refl))))) (nothing-turns now)
     where
       r : Request
       r = getD l (b .slot) blank
 
   choose-turns : (x : Moment) → Done-turns (chosen p (getD l (pickAt l p (x .now) .slot) blank) (pickAt l p (x .now)) (x .now))
-  choose-turns x = chosen-turns (x .now) (pickAt l p (x .now)) (choose-right (record { phys = p .phys; now = x .now }) l (ok .phys))
+  choose-turns x = chosen-turns (x .now) (pickAt l p (x .now)) (choose-right (record { phys = p .phys; now = x .now }) l (ok .sound .eight))
 
   -- ---- a phy's calls
 
-  -- the phy is one of the port's
-  pub numbered : (k now : ℕ) (unfit : Bool) → NoneGiven (phyCauses p (rules p l) k now unfit) → k < 8
-  numbered k now unfit pass = let below = ltb-true k (p .count) (not-false (ltb k (p .count)) (pass .1 .0)) in let most = ok .kept .setup .most in omega arith
-
-  pub phy-kept : (k : ℕ) → k < 8 → PhyKept (p .count) (phyAt p k) k
-  phy-kept k h = ok .kept .phys k h
-
   -- an opening phy names a request
-  pub opening-names : (k : ℕ) → k < 8 → not (isOpening (phyAt p k)) ≡ false → phyAt p k .slot < 32
-  opening-names k h e = phy-kept k h .must (inl (eqb-true (phyAt p k .stage) 2 (not-false (isOpening (phyAt p k)) e)))
+  pub opening-names : (k : ℕ) → k < p .count → not (isOpening (phyAt p k)) ≡ false → phyAt p k .slot < 32
+  opening-names k low e = phy-kept p l (ok .sound .kept) k low .must (inl (eqb-true (phyAt p k .stage) 2 (not-false (isOpening (phyAt p k)) e)))
 
   -- the request that a phy names is in progress
-  busy : (k : ℕ) → k < 8 → phyAt p k .slot < 32 → Free (onPhy l p k) → ⊥
-  busy k h named = not-free (onPhy l p k) 1 (ok .kept .requests (phyAt p k .slot) named .paired .each k h .0 refl .0)
+  busy : (k : ℕ) → k < p .count → phyAt p k .slot < 32 → Free (onPhy l p k) → ⊥
+  busy k low named = not-free (onPhy l p k) 1 (on-it p l (ok .sound .kept) k low named .0)
 
   -- an answer about a phy that names none
   nameless-rests : (d : Done) → d .cleared ≡ false → isSubmitted (d .answer .word) ≡ false → isLast (d .answer .word) ≡ false → 32 ≤ d .answer .slot → Done-turns d
   nameless-rests d some a b past = rests l d (ok .list) some a b (λ h. absurd (omega (arith, h, past)))
 
-  opened-turns : (x : Confirmed) → NoneGiven (phyCauses p (rules p l) (x .phy) (x .now) (not (isOpening (phyAt p (x .phy))))) → Done-turns (connected p (phyAt p (x .phy)) (onPhy l p (x .phy)) x)
-  opened-turns x pass = cases (isCancelled r) (busy (x .phy) (numbered (x .phy) (x .now) (not (isOpening f)) pass))
-    where
-      f : Phy
-      f = phyAt p (x .phy)
-
-      r : Request
-      r = onPhy l p (x .phy)
-
-      cases : (t : Bool) → (f .slot < 32 → Free r → ⊥) → Done-turns (openedBy p f r x t)
-      cases true there = rests l (openedBy p f r x true) (ok .list) refl refl refl (λ h. (there h, (refl, (there h, refl))))
-      cases false there = rests l (openedBy p f r x false) (ok .list) refl refl refl (λ h. (there h, (refl, (there h, refl))))
-
   open-failed-turns : (x : Failure) → NoneGiven (failedCauses p (rules p l) x (not (isOpening (phyAt p (x .phy))))) → Done-turns (failed p (phyAt p (x .phy)) (onPhy l p (x .phy)) (reasonOf (x .why)) (x .phy) (x .now))
   open-failed-turns x pass =
-      let k = numbered (x .phy) (x .now) (not (isOpening f)) (pass .1) in
-      let named = opening-names (x .phy) k (pass .1 .1 .1 .1 .0) in
-      cases (isCancelled r) (isRetried why) (isSsp (r .head) && isLost (timerAfter r why (x .now)) (p .loss) (x .now)) named (busy (x .phy) k named)
+      let low = phy-ok p l (x .phy) (x .now) (not (isOpening f)) (pass .1) .0 in
+      let named = opening-names (x .phy) low (pass .1 .1 .1 .1 .0) in
+      cases (isCancelled r) (isRetried why) (isSsp (r .head) && isLost (timerAfter r why (x .now)) (p .loss) (x .now)) named (busy (x .phy) low named)
     where
       f : Phy
       f = phyAt p (x .phy)
@@ -195,9 +153,9 @@ module _ (s : State) (ok : Lawful s) where
 
   frame-status-turns : (x : Report) → NoneGiven (phyCauses p (rules p l) (x .phy) (x .now) (not (hasFrameOut (phyAt p (x .phy))))) → Done-turns (framed p (phyAt p (x .phy)) (onPhy l p (x .phy)) x)
   frame-status-turns x pass =
-      let k = numbered (x .phy) (x .now) (not (hasFrameOut f)) pass in
-      let named = phy-kept (x .phy) k .must (inr (either (equal (f .stage) 4) (equal (f .stage) 6) .0 (not-false (hasFrameOut f) (pass .1 .1 .1 .0)))) in
-      cases (isCancelled r) named (busy (x .phy) k named)
+      let low = phy-ok p l (x .phy) (x .now) (not (hasFrameOut f)) pass .0 in
+      let named = phy-kept p l (ok .sound .kept) (x .phy) low .must (inr (either (equal (f .stage) 4) (equal (f .stage) 6) .0 (not-false (hasFrameOut f) (pass .1 .1 .1 .0)))) in
+      cases (isCancelled r) named (busy (x .phy) low named)
     where
       f : Phy
       f = phyAt p (x .phy)
@@ -217,43 +175,47 @@ module _ (s : State) (ok : Lawful s) where
       by true e = named (ltb-true (f .slot) 32 e)
       by false e = nameless (ltb-false (f .slot) 32 e)
 
-  closed-turns : (x : Confirmed) → NoneGiven (phyCauses p (rules p l) (x .phy) (x .now) (not (isJoined (phyAt p (x .phy))))) → Done-turns (closedDone p (phyAt p (x .phy)) (onPhy l p (x .phy)) x)
-  closed-turns x pass =
-      by-name f (λ n. closedBy p f r x n (isCancelled r)) (λ h. cases (isCancelled r) h (busy (x .phy) (numbered (x .phy) (x .now) (not (isJoined f)) pass) h))
-      (nameless-rests (closedBy p f r x false (isCancelled r)) refl refl refl)
-    where
-      f : Phy
-      f = phyAt p (x .phy)
+  -- ---- a phy's calls that are confirmations of it
 
-      r : Request
-      r = onPhy l p (x .phy)
+  module _ (x : Confirmed) where
+    abbrev f : Phy
+    f = phyAt p (x .phy)
 
-      cases : (t : Bool) → f .slot < 32 → (Free r → ⊥) → Done-turns (closedBy p f r x true t)
-      cases true h there = leaves l (closedBy p f r x true true) (ok .list) refl refl h there refl refl
-      cases false h there = leaves l (closedBy p f r x true false) (ok .list) refl refl h there refl refl
+    abbrev r : Request
+    r = onPhy l p (x .phy)
 
-  enable-turns : (x : Confirmed) → Done-turns (enabledBy p (onPhy l p (x .phy)) x)
-  enable-turns x = nameless-rests (enabledBy p (onPhy l p (x .phy)) x) refl refl refl (omega arith)
+    opened-turns : NoneGiven (phyCauses p (rules p l) (x .phy) (x .now) (not (isOpening f))) → Done-turns (connected p f r x)
+    opened-turns pass = cases (isCancelled r) (busy (x .phy) (phy-ok p l (x .phy) (x .now) (not (isOpening f)) pass .0))
+      where
+        cases : (t : Bool) → (f .slot < 32 → Free r → ⊥) → Done-turns (openedBy p f r x t)
+        cases true there = rests l (openedBy p f r x true) (ok .list) refl refl refl (λ h. (there h, (refl, (there h, refl))))
+        cases false there = rests l (openedBy p f r x false) (ok .list) refl refl refl (λ h. (there h, (refl, (there h, refl))))
 
-  disable-turns : (x : Confirmed) → NoneGiven (phyCauses p (rules p l) (x .phy) (x .now) (isDisabled (phyAt p (x .phy)))) → Done-turns (disabledDone p (phyAt p (x .phy)) (onPhy l p (x .phy)) x)
-  disable-turns x pass =
-      by-name f (λ n. disabledBy p f r x n (isCancelled r)) (λ h. cases (isCancelled r) h (busy (x .phy) (numbered (x .phy) (x .now) (isDisabled f) pass) h))
-      (nameless-rests (disabledBy p f r x false (isCancelled r)) refl refl refl)
-    where
-      f : Phy
-      f = phyAt p (x .phy)
+    closed-turns : NoneGiven (phyCauses p (rules p l) (x .phy) (x .now) (not (isJoined f))) → Done-turns (closedDone p f r x)
+    closed-turns pass =
+        by-name f (λ n. closedBy p f r x n (isCancelled r)) (λ h. cases (isCancelled r) h (busy (x .phy) (phy-ok p l (x .phy) (x .now) (not (isJoined f)) pass .0) h))
+        (nameless-rests (closedBy p f r x false (isCancelled r)) refl refl refl)
+      where
+        cases : (t : Bool) → f .slot < 32 → (Free r → ⊥) → Done-turns (closedBy p f r x true t)
+        cases true h there = leaves l (closedBy p f r x true true) (ok .list) refl refl h there refl refl
+        cases false h there = leaves l (closedBy p f r x true false) (ok .list) refl refl h there refl refl
 
-      r : Request
-      r = onPhy l p (x .phy)
+    enable-turns : Done-turns (enabledBy p r x)
+    enable-turns = nameless-rests (enabledBy p r x) refl refl refl (omega arith)
 
-      cases : (t : Bool) → f .slot < 32 → (Free r → ⊥) → Done-turns (disabledBy p f r x true t)
-      cases true h there = leaves l (disabledBy p f r x true true) (ok .list) refl refl h there refl refl
-      cases false h there = rests l (disabledBy p f r x true false) (ok .list) refl refl refl (λ _. (there, (refl, (not-free (placed r 1 0) 0 refl, refl))))
+    disable-turns : NoneGiven (phyCauses p (rules p l) (x .phy) (x .now) (isDisabled f)) → Done-turns (disabledDone p f r x)
+    disable-turns pass =
+        by-name f (λ n. disabledBy p f r x n (isCancelled r)) (λ h. cases (isCancelled r) h (busy (x .phy) (phy-ok p l (x .phy) (x .now) (isDisabled f) pass .0) h))
+        (nameless-rests (disabledBy p f r x false (isCancelled r)) refl refl refl)
+      where
+        cases : (t : Bool) → f .slot < 32 → (Free r → ⊥) → Done-turns (disabledBy p f r x true t)
+        cases true h there = leaves l (disabledBy p f r x true true) (ok .list) refl refl h there refl refl
+        cases false h there = rests l (disabledBy p f r x true false) (ok .list) refl refl refl (λ _. (there, (refl, (not-free (placed r 1 0) 0 refl, refl))))
 
   -- ---- all of them
 
-  turns : (c : Call) → isSetup c ≡ false → NoneGiven (causesAt c s) → Done-turns (takenAt c s)
-  unfolding causesAt takenAt
+  turns : (c : Call) → isSetup c ≡ false → NoneGiven (behind (causesOf c s)) → Done-turns (takenOf c s)
+  unfolding causesOf takenOf
   turns (setup count loss) e pass = absurd (never (sym e))
   turns (submit x) e pass = submit-turns x pass
   turns (cancel x) e pass = cancel-turns x pass
@@ -266,4 +228,4 @@ module _ (s : State) (ok : Lawful s) where
   turns (disable x) e pass = disable-turns x pass
 
   pub turned : (c : Call) → isSetup c ≡ false → isRefused (doneOf c s .answer .word) ≡ false → Done-turns (doneOf c s)
-  turned c e = by-taken Done-turns c s (turns c e)
+  turned c e = by-taken c s Done-turns (turns c e)

@@ -1,16 +1,15 @@
 -- A request that is present can be ended: a waiting one by Cancel, one in progress by disabling its phy, after which it waits or is
 -- gone. The rules say that neither call is refused at the last time. Assumes nothing.
-use Prim.Native.Nat.{ℕ, zero, suc, _≤_, _<_}
+use Prim.Native.Nat.{ℕ, _<_}
 use mathlib.Core.Path.{_≡_, refl, sym, ap, subst, _∙_}
 use mathlib.Core.Bool.{Bool, true, false, not, cond, _||_}
-use mathlib.Core.List.{List, [], _∷_}
-use mathlib.Core.Logic.{_⊎_, inl, inr}
+use mathlib.Core.List.{List}
+use mathlib.Core.Logic.{inl}
 use native.Mathlib.Omega.{arith}
 use lib.Dec.{eqb, ltb}
 use lib.ListN.{length, getD}
 use borrow.Author.Tests.{eqb-true, eqb-false, eq-eqb, ne-eqb, lt-ltb, le-ltb, lt-leb}
-use Rattle.laws.proofs.Bools.{never, and-true, by-test}
-use Rattle.laws.proofs.Tests.{equal, both, unless}
+use Rattle.laws.proofs.Bools.{never, by-test}
 use Rattle.laws.proofs.Finds.{Found, none, at}
 use Rattle.refusals.proofs.Causes.{unrefused}
 use Rattle.open_frame.specs.declared.Head.{Head}
@@ -20,7 +19,7 @@ use Rattle.port_parts.specs.declared.Phy.{Phy}
 use Rattle.port_parts.specs.declared.Port.{Port}
 use Rattle.port_parts.specs.declared.Request.{Request}
 use Rattle.port_rules.specs.Rules.{rules}
-use Rattle.port_rules.specs.Kept.{Free, MustName, Present, PhyKept}
+use Rattle.port_rules.specs.Kept.{Free, Present}
 use Rattle.port_rules.proofs.Facts.{rules-say}
 use Rattle.port_core.specs.Answers.{later, withPhy, unchanged, told, refusedBy}
 use Rattle.port_core.specs.Calls.{placed, phyAt, isCancelled, cancelled, disabledDone, cancelCauses, phyCauses, cancelOf, disableOf}
@@ -30,16 +29,18 @@ use Rattle.port_core.specs.declared.Done.{Done}
 use Rattle.port_core.specs.declared.Withdrawn.{Withdrawn}
 use Rattle.port_core.specs.declared.Word.the-variants.{Taken, Waiting, CancelAcknowledged}
 use Rattle.port.specs.Calls.{leftOf, onPhy}
-use Rattle.port.specs.Grounds.{HasKey}
-use Rattle.port.specs.History.{State, Call, setup, run, cancel, disable, doneOf, isRefused, isLast, leave}
+use Rattle.port.specs.History.{State, Call, cancel, disable, doneOf, isRefused, isLast, leave, Entry}
 use Rattle.port.specs.declared.Stepped.{Stepped}
-use Rattle.port.proofs.Refusals.{key-found}
+use Rattle.port.proofs.Refusals.{key-says, key-found}
+use Rattle.port.proofs.Begins.{left-here}
+use Rattle.port_kept.proofs.Holds.{present-at, in-progress, its-phy, its-name, names-none, number-low}
+use Rattle.port_kept.proofs.Leaves.{by-step}
 use Rattle.port_once.specs.Turns.{keyed, Lawful}
 use Rattle.port_once.specs.Runs.{Run, now}
 use Rattle.port_once.specs.Ends.{LastOn, Ends, at-once, second}
-use Rattle.port_once.proofs.Records.{at-slot}
-use Rattle.port_once.proofs.Steps.{Step, refused, taken, step, answers, lawful-after, begins}
-use Rattle.port_once.proofs.Histories.{of-says, one-of-key}
+use Rattle.port_once.proofs.Steps.{answers, lawful-after}
+use Rattle.port_once.proofs.Histories.{keyed-of, one-of-key}
+use Rattle.port_once.proofs.Leaving.{tells}
 
 last-on : (s : State) (c : Call) (d : Done) (slot : ℕ) (head : Head) → length (s .list) ≡ 32 → doneOf c s ≡ d → isLast (d .answer .word) ≡ true → d .answer .slot ≡ slot → d .answer .frame .head ≡ head → LastOn s c slot head
 last-on s c d slot head len is word at-s named =
@@ -60,17 +61,13 @@ module _ (s : State) (ok : Lawful s) (slot : ℕ) (below : slot < 32) (there : F
   r = getD l slot blank
 
   rules-hold : not (rules p l) ≡ false
-  rules-hold = ap not (rules-say p l .1 (ok .kept))
+  rules-hold = ap not (rules-say p l .1 (ok .sound .kept))
 
   in-time : ltb (p .last) (p .last) ≡ false
   in-time = le-ltb (p .last) (p .last) (omega arith)
 
   present : Present r (p .last)
-  present = by (ok .kept .requests slot below .present)
-    where
-      by : Free r ⊎ Present r (p .last) → Present r (p .last)
-      by (inl f) = absurd (there f)
-      by (inr k) = k
+  present = present-at p l (ok .sound .kept) slot below there
 
   -- ---- a waiting one, by Cancel
 
@@ -81,16 +78,11 @@ module _ (s : State) (ok : Lawful s) (slot : ℕ) (below : slot < 32) (there : F
   found = by (key-found l (x .key))
     where
       here : hasKey r (x .key) ≡ true
-      here =
-          and-true (ap not (ne-eqb (r .stage) 0 there))
-          (and-true (eq-eqb (r .head .destination) (r .head .destination) refl) (and-true (eq-eqb (r .head .protocol) (r .head .protocol) refl) (eq-eqb (r .head .tag) (r .head .tag) refl)))
+      here = key-says r (x .key) .1 (there, keyed-of {g = r .head} {h = r .head} refl)
 
       by : Found blank (λ q. hasKey q (x .key)) l 32 32 (keyOf l (x .key)) → keyOf l (x .key) ≡ slot
       by (none e none-has) = absurd (never (sym (none-has slot below) ∙ here))
-      by (at m t low) = one-of-key p l (x .key) (ok .kept) (keyOf l (x .key)) slot m below (has-key (getD l (keyOf l (x .key)) blank) t) (has-key r here)
-        where
-          has-key : (q : Request) → hasKey q (x .key) ≡ true → HasKey q (x .key)
-          has-key q t = both (unless (equal (q .stage) 0)) (of-says (q .head) (x .key)) .0 t
+      by (at m t low) = one-of-key p l (x .key) (ok .sound .kept) (keyOf l (x .key)) slot m below (key-says (getD l (keyOf l (x .key)) blank) (x .key) .0 t) (there, keyed-of {g = r .head} {h = r .head} refl)
 
   abbrev cancel-done : Done
   cancel-done = told (later p (p .last)) CancelAcknowledged slot 8 r blank unchanged
@@ -117,32 +109,19 @@ module _ (s : State) (ok : Lawful s) (slot : ℕ) (below : slot < 32) (there : F
     f = phyAt p (r .phy)
 
     in-port : r .phy < 8
-    in-port = ok .kept .requests slot below .paired .phy busy
+    in-port = its-phy p l (ok .sound .kept) slot below busy
 
     names-it : f .slot ≡ slot
-    names-it = ok .kept .requests slot below .paired .each (r .phy) in-port .1 (busy, refl)
-
-    phy-kept : PhyKept (p .count) f (r .phy)
-    phy-kept = ok .kept .phys (r .phy) in-port
+    names-it = its-name p l (ok .sound .kept) slot below busy
 
     named : f .slot < 32
     named = omega (arith, names-it, below)
 
     enabled : f .stage ≡ 0 → ⊥
-    enabled e = by (phy-kept .may named)
-      where
-        by : MustName f ⊎ (f .stage ≡ 5) → ⊥
-        by (inl (inl a)) = omega (arith, a, e)
-        by (inl (inr (inl a))) = omega (arith, a, e)
-        by (inl (inr (inr a))) = omega (arith, a, e)
-        by (inr a) = omega (arith, a, e)
+    enabled e = names-none p l (ok .sound .kept) (r .phy) in-port 0 e (inl (omega arith)) named
 
     counted-in : r .phy < p .count
-    counted-in = by (phy-kept .past)
-      where
-        by : (r .phy < p .count) ⊎ (f .stage ≡ 0) → r .phy < p .count
-        by (inl a) = a
-        by (inr a) = absurd (enabled a)
+    counted-in = number-low p l (ok .sound .kept) (r .phy) in-port enabled
 
     abbrev y : Confirmed
     y = record { phy = r .phy; now = p .last }
@@ -169,14 +148,13 @@ module _ (s : State) (ok : Lawful s) (slot : ℕ) (below : slot < 32) (there : F
 
     -- the request behind the call
     waits-again : isCancelled r ≡ false → getD (leave (disable y) s .list) slot blank ≡ placed r 1 0
-    waits-again e = by (step (disable y) s (ok .list))
+    waits-again e =
+        by-step (disable y) s (λ (t : State) (es : List Entry). getD (t .list) slot blank ≡ placed r 1 0)
+        (λ off. absurd (never (sym (ap (λ (q : Stepped). isRefused (q .answer .word)) (answers (disable y) s (ok .list)) ∙ ap (λ (d : Done). isRefused (d .answer .word)) is) ∙ off)))
+        (λ size on. ap (λ (d : Done). getD (leftOf l d) slot blank) is ∙ left-here l (disable-done false) (ok .list) refl below)
       where
         is : doneOf (disable y) s ≡ disable-done false
         is = disable-is ∙ ap disable-done e
-
-        by : Step (disable y) s → getD (leave (disable y) s .list) slot blank ≡ placed r 1 0
-        by (refused no-way stays empty) = absurd (never (sym (ap (λ (d : Done). isRefused (d .answer .word)) is) ∙ no-way))
-        by (taken on left one) = ap (λ (t : State). getD (t .list) slot blank) left ∙ ap (λ (d : Done). getD (leftOf l d) slot blank) is ∙ at-slot l (disable-done false) (ok .list) refl below
 
 ends : (s : State) → Lawful s → (slot : ℕ) → slot < 32 → (Free (getD (s .list) slot blank) → ⊥) → Ends s slot
 ends s ok slot below there = by (eqb (r .stage) 1) refl (isCancelled r) refl
@@ -184,14 +162,8 @@ ends s ok slot below there = by (eqb (r .stage) 1) refl (isCancelled r) refl
     r : Request
     r = getD (s .list) slot blank
 
-    -- present and not waiting is in progress
     busy : eqb (r .stage) 1 ≡ false → r .stage ≡ 2
-    busy e = let most = present s ok slot below there .flags .stage in let other = eqb-false (r .stage) 1 e in two (r .stage) there other most
-      where
-        two : (n : ℕ) → (n ≡ 0 → ⊥) → (n ≡ 1 → ⊥) → n ≤ 2 → n ≡ 2
-        two zero a b h = absurd (a refl)
-        two (suc zero) a b h = absurd (b refl)
-        two (suc (suc n)) a b h = omega (arith, h)
+    busy e = in-progress (s .port) (s .list) (ok .sound .kept) slot below there (eqb-false (r .stage) 1 e)
 
     by : (t : Bool) → eqb (r .stage) 1 ≡ t → (u : Bool) → isCancelled r ≡ u → Ends s slot
     by true w u c = at-once (cancel (x s ok slot below there)) (waiting-ends s ok slot below there (eqb-true (r .stage) 1 w))
@@ -206,11 +178,5 @@ ends s ok slot below there = by (eqb (r .stage) 1) refl (isCancelled r) refl
         second b cancels refl
         (subst (LastOn (leave b s) cancels slot) (ap (λ (q : Request). q .head) again) (waiting-ends (leave b s) after slot below still waits))
 
--- from a setup on
-lawful-run : (cs : List Call) (s : State) → Lawful s → Lawful (run cs s)
-lawful-run [] s ok = ok
-lawful-run (c ∷ cs) s ok = lawful-run cs (leave c s) (lawful-after c s ok)
-
 pub ends-from : (r : Run) (slot : ℕ) → slot < 32 → (Free (getD (now r .list) slot blank) → ⊥) → Ends (now r) slot
-ends-from r =
-    ends (now r) (lawful-run (r .calls) (leave (setup (r .count) (r .loss)) (r .lent)) (begins (r .count) (r .loss) (r .lent) (r .sized) (r .range) .1 .0))
+ends-from r = ends (now r) (tells r .ok)

@@ -25,7 +25,7 @@ use Rattle.port_core.specs.declared.Word.the-variants.{Taken, Submitted, Nothin
 use Rattle.port.specs.Grounds.{HasKey, Absent}
 use Rattle.port.specs.History.{Call, Entry, isLast, isRefused}
 use Rattle.port_once.specs.Standing.{isSetup, isSubmitted, isOf, accepts, ends, speaks, submits, lastWords, Standing, gone, there, wrong, sameHead, agrees, accepted, ended, spoken, after, standing}
-use Rattle.port_once.specs.Turns.{Stays, OthersStay, Comes, Leaves, Rests, Turns, Holds}
+use Rattle.port_once.specs.Turns.{keyed, Stays, OthersStay, Comes, Leaves, Rests, Turns, Holds}
 
 -- ---- words and keys
 
@@ -62,6 +62,13 @@ OfKey h x = (h .destination ≡ x .destination) × ((h .protocol ≡ x .protocol
 
 pub of-says : (h : Head) (x : Key) → Says (isOf h x) (OfKey h x)
 of-says h x = both (equal (h .destination) (x .destination)) (both (equal (h .protocol) (x .protocol)) (equal (h .tag) (x .tag)))
+
+pub keyed-of : {g h : Head} → g ≡ h → OfKey g (keyed h)
+keyed-of e = (ap (λ (h : Head). h .destination) e, (ap (λ (h : Head). h .protocol) e, ap (λ (h : Head). h .tag) e))
+
+-- two heads with one key
+pub keyed-as : (g h : Head) (x : Key) → OfKey g x → OfKey h x → OfKey g (keyed h)
+keyed-as g h x a b = (a .0 ∙ sym (b .0), (a .1 .0 ∙ sym (b .1 .0), a .1 .1 ∙ sym (b .1 .1)))
 
 same-head : (h : Head) → sameHead h h ≡ true
 same-head h =
@@ -107,7 +114,7 @@ one-of-key p l x kept i j m n a b = elim (decLt i j) [
 ]
   where
     shared : (r q : Request) → HasKey r x → HasKey q x → SameKey (r .head) (q .head)
-    shared r q c d = (c .1 .0 ∙ sym (d .1 .0), (c .1 .1 .0 ∙ sym (d .1 .1 .0), c .1 .1 .1 ∙ sym (d .1 .1 .1)))
+    shared r q c d = keyed-as (r .head) (q .head) x (c .1) (d .1)
 
 -- a record that stays has a key exactly if it had it
 pub had : (x : Key) {a b : Request} → Stays a b → HasKey b x → HasKey a x
@@ -139,7 +146,7 @@ module _ (p : Port) (l m : List Request) (a : Answer) (kept : Kept p l) (x : Key
 
   came : Comes l m a → isOf (a .frame .head) x ≡ true → (v : Standing) → Holds x v l → Holds x (accepted a v) m
   came c k gone h = (c .slot, ((c .present, subst (λ (g : Head). OfKey g x) (sym (c .head)) (of-says (a .frame .head) x .0 k)), c .head))
-  came c k (there slot head) h = let named = of-says (a .frame .head) x .0 k in c .absent slot (h .0) (h .1 .0 .0, (h .1 .0 .1 .0 ∙ sym (named .0), (h .1 .0 .1 .1 .0 ∙ sym (named .1 .0), h .1 .0 .1 .1 .1 ∙ sym (named .1 .1))))
+  came c k (there slot head) h = c .absent slot (h .0) (h .1 .0 .0, keyed-as (getD l slot blank .head) (a .frame .head) x (h .1 .0 .1) (of-says (a .frame .head) x .0 k))
   came c k wrong h = h
 
   came-other : Comes l m a → isOf (a .frame .head) x ≡ false → (v : Standing) → Holds x v l → Holds x v m

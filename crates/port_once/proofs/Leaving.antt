@@ -13,32 +13,14 @@ use Rattle.port_parts.specs.Parts.{blank}
 use Rattle.port_core.specs.declared.Answer.{Answer}
 use Rattle.port_core.specs.declared.Key.{Key}
 use Rattle.port.specs.Grounds.{HasKey, Absent}
-use Rattle.port.specs.History.{State, Call, setup, steppedBy, leave, run, Entry, entriesOf, history}
+use Rattle.port.specs.History.{State, Call, steppedBy, leave, run, Entry, entriesOf, history}
 use Rattle.port_once.specs.Standing.{isSetup, isSubmitted, accepts, ends, speaks, submits, lastWords, Standing, gone, there, wrong, agrees, accepted, ended, spoken, standing, silent}
-use Rattle.port_once.specs.Turns.{keyed, Holds}
+use Rattle.port_once.specs.Turns.{keyed, Holds, Lawful}
 use Rattle.port_once.specs.Runs.{Run, now, past}
-use Rattle.port_once.proofs.Steps.{begun, begins}
-use Rattle.port_once.proofs.Records.{cleared-at}
-use Rattle.port_once.proofs.Histories.{words, one, there-not-wrong, gone-not-wrong, counted}
+use Rattle.port_once.proofs.Steps.{first, by-first, first-lawful, first-zeros}
+use Rattle.port_once.proofs.Histories.{words, keyed-of, one-of-key, one, there-not-wrong, gone-not-wrong, counted}
 use Rattle.port_once.proofs.Turns.{comes-when}
 use Rattle.port_once.proofs.Runs.{Tells, tells-anew, tells-after, tells-run}
-
--- ---- from a setup on
-
--- behind the first setup, of whatever list
-module _ (r : Run) where
-  abbrev pub first : Call
-  first = setup (r .count) (r .loss)
-
-  pub begins-zeros : (i : ℕ) → i < 32 → getD (leave first (r .lent) .list) i blank ≡ blank
-  begins-zeros i h =
-      ap (λ (s : State). getD (s .list) i blank) (begins (r .count) (r .loss) (r .lent) (r .sized) (r .range) .0)
-      ∙ cleared-at (r .lent .list) (begun (r .count) (r .loss)) (r .sized) refl i h
-
-  pub begins-so : Tells (entriesOf first (r .lent) ++ []) (leave first (r .lent))
-  begins-so =
-      let known = begins (r .count) (r .loss) (r .lent) (r .sized) (r .range) .1 in
-      subst (λ (es : List Entry). Tells (es ++ []) (leave first (r .lent))) (sym (known .1)) (tells-anew first (begun (r .count) (r .loss) .answer) [] (leave first (r .lent)) refl (known .0 .list) (known .0 .phys) begins-zeros)
 
 -- ---- what a history that tells the state says
 
@@ -52,7 +34,7 @@ module _ (h : List Entry) (s : State) (t : Tells h s) (x : Key) where
       by : (v : Standing) → Holds x v (s .list) → v ≡ there slot head
       by gone off = absurd (off slot (k .0) (k .1 .0))
       by (there i g) q =
-          let at : i ≡ slot = t .one x i slot (q .0) (k .0) (q .1 .0) (k .1 .0) in
+          let at : i ≡ slot = one-of-key (s .port) (s .list) x (t .ok .sound .kept) i slot (q .0) (k .0) (q .1 .0) (k .1 .0) in
           let same : g ≡ head = sym (q .1 .1) ∙ ap (λ (n : ℕ). getD (s .list) n blank .head) at ∙ k .1 .1 in
           λ j. there (at j) (same j)
       by wrong q = absurd q
@@ -74,8 +56,11 @@ module _ (h : List Entry) (s : State) (t : Tells h s) (x : Key) where
       omega (arith, counted x h fine, more)
 
 module _ (r : Run) where
+  pub first-tells : Tells (entriesOf (first r) (r .lent) ++ []) (leave (first r) (r .lent))
+  first-tells = by-first r (λ (s : State) (es : List Entry). ((i : ℕ) → i < 32 → getD (s .list) i blank ≡ blank) → Lawful s → Tells (es ++ []) s) (λ on. tells-anew (first r) _ [] _ refl) (first-zeros r) (first-lawful r)
+
   pub tells : Tells (past r) (now r)
-  tells = tells-run (r .calls) (leave (first r) (r .lent)) (entriesOf (first r) (r .lent) ++ []) (begins-so r)
+  tells = tells-run (r .calls) (leave (first r) (r .lent)) (entriesOf (first r) (r .lent) ++ []) first-tells
 
   module _ (x : Key) where
     pub alternates : standing x (past r) ≡ wrong → ⊥
@@ -146,11 +131,8 @@ module _ (r : Run) (c : Call) (submitted : isSubmitted (steppedBy c (now r) .ans
   -- and stands there behind the call, since its key was absent
   stands : standing x (record { call = c; answer = a } ∷ past r) ≡ there (a .slot) (a .frame .head)
   stands =
-      let come = comes-when c (now r) (tells r .phys) submitted in
-      there-now (record { call = c; answer = a } ∷ past r) (leave c (now r)) behind x (a .slot) (a .frame .head) (come .slot, ((come .present, ap-key (come .head)), come .head))
-    where
-      ap-key : {h : Head} → h ≡ a .frame .head → (h .destination ≡ x .destination) × ((h .protocol ≡ x .protocol) × (h .tag ≡ x .tag))
-      ap-key e = (ap (λ (h : Head). h .destination) e, (ap (λ (h : Head). h .protocol) e, ap (λ (h : Head). h .tag) e))
+      let come = comes-when c (now r) (tells r .ok .sound .eight) submitted in
+      there-now (record { call = c; answer = a } ∷ past r) (leave c (now r)) behind x (a .slot) (a .frame .head) (come .slot, ((come .present, keyed-of (come .head)), come .head))
 
   -- whatever calls follow, while they neither set up anew nor say a last word on it, it is there with its slot and head
   pub until : (ds : List Call) → silent x (history ds (leave c (now r)) []) ≡ true → Holds x (there (a .slot) (a .frame .head)) (run ds (leave c (now r)) .list)

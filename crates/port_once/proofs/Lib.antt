@@ -1,8 +1,6 @@
 -- Each accepted submit leaves once, with one last word.
 pub mod Records
-pub mod Passes
 pub mod Cores
-pub mod Verdicts
 pub mod Steps
 pub mod Histories
 pub mod Turns

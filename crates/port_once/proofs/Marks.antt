@@ -7,13 +7,11 @@ use mathlib.Core.Bool.{Bool, true, false, not, cond, _&&_, _||_}
 use mathlib.Core.List.{List}
 use mathlib.Core.Logic.{_⊎_, inl, inr}
 use native.Mathlib.Omega.{arith}
-use lib.Dec.{eqb}
 use lib.ListN.{getD}
-use borrow.Author.Tests.{ne-eqb, eqb-true, ltb-false}
-use Rattle.laws.proofs.Bools.{never, by-test}
+use borrow.Author.Tests.{ne-eqb, ltb-false}
+use Rattle.laws.proofs.Bools.{never}
 use Rattle.refusals.proofs.Causes.{NoneGiven}
-use Rattle.port_parts.specs.Parts.{off, blank, isWaiting, isSsp, isOpening}
-use Rattle.port_parts.specs.Parts as parts
+use Rattle.port_parts.specs.Parts.{off, blank, isSsp, isOpening}
 use Rattle.port_parts.specs.Qualifies.{Qualifies, sends, opens, closes, Right, none, one}
 use Rattle.port_parts.specs.Reasons.{reasonOf, isRetried}
 use Rattle.port_parts.specs.Timer.{isLost}
@@ -35,11 +33,14 @@ use Rattle.port_core.specs.declared.Wish.{Wish}
 use Rattle.port.specs.Calls.{onPhy, pickAt}
 use Rattle.port.specs.History.{State, Call, setup, submit, cancel, choose, opened, openFailed, frameStatus, closed, enable, disable, doneOf, isRefused, isLast}
 use Rattle.port.specs.declared.Moment.{Moment}
+use Rattle.port.proofs.Refusals.{causesOf, takenOf, behind}
+use Rattle.port_kept.proofs.Keeps.{phy-ok}
+use Rattle.port_kept.proofs.Leaves.{by-taken}
+use Rattle.port_kept.proofs.Ways.{submittedTo, endedBy, stoppedBy, openedBy, failedBy, framedBy, closedBy, disabledBy, enabledBy, by-cancelled, by-chosen, waits}
 use Rattle.port_once.specs.Standing.{isSetup, isSubmitted}
 use Rattle.port_once.specs.Turns.{Lawful}
 use Rattle.port_once.specs.Marks.{isCancel, isAcknowledged, isGoing, isChoose, isClose}
-use Rattle.port_once.proofs.Passes.{submittedTo, endedBy, stoppedBy, openedBy, failedBy, framedBy, closedBy, disabledBy, enabledBy, causesAt, takenAt, by-taken}
-use Rattle.port_once.proofs.Cores.{waits, numbered, opening-names}
+use Rattle.port_once.proofs.Cores.{opening-names}
 
 -- what is left of the marks at the answer's slot, where the list was l; the call is a Cancel or not, a choose or not
 pub record Marks (l : List Request) (canceling choosing : Bool) (d : Done) : Type 0 where
@@ -87,8 +88,7 @@ module _ (s : State) (ok : Lawful s) where
       record { some = refl; new = λ _. (refl, refl); same = λ e _ _. absurd (never (sym e)); last = λ e. absurd (never e); goes = λ e. absurd (never e); once = λ e. absurd (never e) }
 
   cancelled-marks : (k now : ℕ) → Marks l true false (cancelled p (getD l k blank) k now)
-  unfolding cancelled
-  cancelled-marks k now = by-test (Marks l true false) (isWaiting r) (λ _. end true (endedBy p r k now) refl refl refl refl refl) (λ _. stopping (isOpening (phyAt p (r .phy))))
+  cancelled-marks k now = by-cancelled (Marks l true false) p r k now (λ _. end true (endedBy p r k now) refl refl refl refl refl) (λ _. stopping (isOpening (phyAt p (r .phy))))
     where
       r : Request
       r = getD l k blank
@@ -105,7 +105,7 @@ module _ (s : State) (ok : Lawful s) where
 
   choose-marks : (x : Moment) → Marks l false true (chosen p (getD l (pickAt l p (x .now) .slot) blank) (pickAt l p (x .now)) (x .now))
   unfolding chosen
-  choose-marks x = by (pickAt l p (x .now)) (choose-right (record { phys = p .phys; now = x .now }) l (ok .phys))
+  choose-marks x = by (pickAt l p (x .now)) (choose-right (record { phys = p .phys; now = x .now }) l (ok .sound .eight))
     where
       nothing : Marks l false true (idle p (x .now))
       nothing = rest false true (idle p (x .now)) refl refl refl (λ h. absurd (omega arith)) (λ e. absurd (never e)) (λ e. absurd (never e))
@@ -114,30 +114,13 @@ module _ (s : State) (ok : Lawful s) where
       by b (none nowhere) = nothing
       by b (one w) =
           let r = getD l (b .slot) blank in
-          let off = unmarked r (ok .kept .requests (b .slot) (w .slot) .present) (waits s ok r (phyAt p (b .phy)) (x .now) (b .step) (w .fits)) in
-          by-test (Marks l false true) (eqb (b .step) 1) (λ _. rest false true (sent p r b (x .now)) refl refl refl (λ _. (refl, refl)) (λ _. (w .slot, off)) (λ e. absurd (never e)))
-          (λ _. by-test (Marks l false true) (eqb (b .step) 2) (λ _. rest false true (opening p r b (x .now)) refl refl refl (λ _. (refl, refl)) (λ _. (w .slot, off)) (λ e. absurd (never e)))
-          (λ _. by-test (Marks l false true) (eqb (b .step) 3)
-          (λ is. rest false true (closing p r b (x .now)) refl refl refl (λ _. (refl, refl)) (λ e. absurd (never e)) (λ _. (w .slot, unclosed r (phyAt p (b .phy)) (x .now) (b .step) (w .fits) (eqb-true (b .step) 3 is))))
-          (λ _. nothing)))
+          let off = unmarked r (ok .sound .kept .requests (b .slot) (w .slot) .present) (waits (w .fits)) in
+          by-chosen (Marks l false true) p r b (x .now) (λ _. rest false true (sent p r b (x .now)) refl refl refl (λ _. (refl, refl)) (λ _. (w .slot, off)) (λ e. absurd (never e)))
+          (λ _. rest false true (opening p r b (x .now)) refl refl refl (λ _. (refl, refl)) (λ _. (w .slot, off)) (λ e. absurd (never e)))
+          (λ is. rest false true (closing p r b (x .now)) refl refl refl (λ _. (refl, refl)) (λ e. absurd (never e)) (λ _. (w .slot, unclosed r (phyAt p (b .phy)) (x .now) (b .step) (w .fits) is)))
+          nothing
 
   -- ---- a phy's calls, by whether its request is cancelled
-
-  opened-marks : (x : Confirmed) → NoneGiven (phyCauses p (rules p l) (x .phy) (x .now) (not (isOpening (phyAt p (x .phy))))) → Marks l false false (connected p (phyAt p (x .phy)) (onPhy l p (x .phy)) x)
-  opened-marks x pass = cases (isCancelled r) refl
-    where
-      f : Phy
-      f = phyAt p (x .phy)
-
-      r : Request
-      r = onPhy l p (x .phy)
-
-      named : f .slot < 32
-      named = opening-names s ok (x .phy) (numbered s ok (x .phy) (x .now) (not (isOpening f)) pass) (pass .1 .1 .1 .0)
-
-      cases : (t : Bool) → isCancelled r ≡ t → Marks l false false (openedBy p f r x t)
-      cases true e = holds-back false (openedBy p f r x true) refl refl refl refl (λ _. (refl, refl))
-      cases false e = rest false false (openedBy p f r x false) refl refl refl (λ _. (refl, refl)) (λ _. (named, e)) (λ e. absurd (never e))
 
   open-failed-marks : (x : Failure) → Marks l false false (failed p (phyAt p (x .phy)) (onPhy l p (x .phy)) (reasonOf (x .why)) (x .phy) (x .now))
   open-failed-marks x = cases (isCancelled r) refl (isRetried why) (isSsp (r .head) && isLost (timerAfter r why (x .now)) (p .loss) (x .now))
@@ -170,41 +153,48 @@ module _ (s : State) (ok : Lawful s) where
       cases true e = end false (framedBy p f r x true) refl refl refl refl (sym e)
       cases false e = end false (framedBy p f r x false) refl refl refl refl (sym e)
 
-  closed-marks : (x : Confirmed) → Marks l false false (closedDone p (phyAt p (x .phy)) (onPhy l p (x .phy)) x)
-  closed-marks x = cases (names f) refl (isCancelled r) refl
-    where
-      f : Phy
-      f = phyAt p (x .phy)
+  -- ---- a phy's calls that are confirmations of it
 
-      r : Request
-      r = onPhy l p (x .phy)
+  module _ (x : Confirmed) where
+    abbrev f : Phy
+    f = phyAt p (x .phy)
 
-      cases : (n : Bool) → names f ≡ n → (t : Bool) → isCancelled r ≡ t → Marks l false false (closedBy p f r x n t)
-      cases true m true e = end false (closedBy p f r x true true) refl refl refl refl (sym e)
-      cases true m false e = end false (closedBy p f r x true false) refl refl refl refl (sym e)
-      cases false m t e = holds-back false (closedBy p f r x false t) refl refl refl refl (λ h. absurd (let past = ltb-false (f .slot) 32 m in omega (arith, h, past)))
+    abbrev r : Request
+    r = onPhy l p (x .phy)
 
-  enable-marks : (x : Confirmed) → Marks l false false (enabledBy p (onPhy l p (x .phy)) x)
-  enable-marks x = holds-back false (enabledBy p (onPhy l p (x .phy)) x) refl refl refl refl (λ h. absurd (omega arith))
+    opened-marks : NoneGiven (phyCauses p (rules p l) (x .phy) (x .now) (not (isOpening f))) → Marks l false false (connected p f r x)
+    opened-marks pass = cases (isCancelled r) refl
+      where
+        named : f .slot < 32
+        named = opening-names s ok (x .phy) (phy-ok p l (x .phy) (x .now) (not (isOpening f)) pass .0) (pass .1 .1 .1 .0)
 
-  disable-marks : (x : Confirmed) → Marks l false false (disabledDone p (phyAt p (x .phy)) (onPhy l p (x .phy)) x)
-  disable-marks x = cases (names f) refl (isCancelled r) refl
-    where
-      f : Phy
-      f = phyAt p (x .phy)
+        cases : (t : Bool) → isCancelled r ≡ t → Marks l false false (openedBy p f r x t)
+        cases true e = holds-back false (openedBy p f r x true) refl refl refl refl (λ _. (refl, refl))
+        cases false e = rest false false (openedBy p f r x false) refl refl refl (λ _. (refl, refl)) (λ _. (named, e)) (λ e. absurd (never e))
 
-      r : Request
-      r = onPhy l p (x .phy)
+    closed-marks : Marks l false false (closedDone p f r x)
+    closed-marks = cases (names f) refl (isCancelled r) refl
+      where
+        cases : (n : Bool) → names f ≡ n → (t : Bool) → isCancelled r ≡ t → Marks l false false (closedBy p f r x n t)
+        cases true m true e = end false (closedBy p f r x true true) refl refl refl refl (sym e)
+        cases true m false e = end false (closedBy p f r x true false) refl refl refl refl (sym e)
+        cases false m t e = holds-back false (closedBy p f r x false t) refl refl refl refl (λ h. absurd (let past = ltb-false (f .slot) 32 m in omega (arith, h, past)))
 
-      cases : (n : Bool) → names f ≡ n → (t : Bool) → isCancelled r ≡ t → Marks l false false (disabledBy p f r x n t)
-      cases true m true e = end false (disabledBy p f r x true true) refl refl refl refl (sym e)
-      cases true m false e = holds-back false (disabledBy p f r x true false) refl refl refl refl (λ _. (refl, refl))
-      cases false m t e = holds-back false (disabledBy p f r x false t) refl refl refl refl (λ h. absurd (let past = ltb-false (f .slot) 32 m in omega (arith, h, past)))
+    enable-marks : Marks l false false (enabledBy p r x)
+    enable-marks = holds-back false (enabledBy p r x) refl refl refl refl (λ h. absurd (omega arith))
+
+    disable-marks : Marks l false false (disabledDone p f r x)
+    disable-marks = cases (names f) refl (isCancelled r) refl
+      where
+        cases : (n : Bool) → names f ≡ n → (t : Bool) → isCancelled r ≡ t → Marks l false false (disabledBy p f r x n t)
+        cases true m true e = end false (disabledBy p f r x true true) refl refl refl refl (sym e)
+        cases true m false e = holds-back false (disabledBy p f r x true false) refl refl refl refl (λ _. (refl, refl))
+        cases false m t e = holds-back false (disabledBy p f r x false t) refl refl refl refl (λ h. absurd (let past = ltb-false (f .slot) 32 m in omega (arith, h, past)))
 
   -- ---- all of them
 
-  marks : (c : Call) → isSetup c ≡ false → NoneGiven (causesAt c s) → Marks l (isCancel c) (isChoose c) (takenAt c s)
-  unfolding causesAt takenAt
+  marks : (c : Call) → isSetup c ≡ false → NoneGiven (behind (causesOf c s)) → Marks l (isCancel c) (isChoose c) (takenOf c s)
+  unfolding causesOf takenOf
   marks (setup count loss) e pass = absurd (never (sym e))
   marks (submit x) e pass = submit-marks x
   marks (cancel x) e pass = cancelled-marks (keyOf l (x .key)) (x .now)
@@ -217,4 +207,4 @@ module _ (s : State) (ok : Lawful s) where
   marks (disable x) e pass = disable-marks x
 
   pub marked-so : (c : Call) → isSetup c ≡ false → isRefused (doneOf c s .answer .word) ≡ false → Marks l (isCancel c) (isChoose c) (doneOf c s)
-  marked-so c e = by-taken (Marks l (isCancel c) (isChoose c)) c s (marks c e)
+  marked-so c e = by-taken c s (Marks l (isCancel c) (isChoose c)) (marks c e)

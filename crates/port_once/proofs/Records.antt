@@ -2,24 +2,23 @@
 -- writes nothing else. So how a request comes, leaves or stays is read off the answer and the entry. Assumes nothing.
 use Prim.Native.Nat.{ℕ, _<_}
 use mathlib.Core.Path.{_≡_, refl, sym, ap, subst, _∙_}
-use mathlib.Core.Bool.{Bool, true, false, not, cond, _&&_}
+use mathlib.Core.Bool.{Bool, true, false}
 use mathlib.Core.List.{List}
 use mathlib.Core.Logic.{inl, inr}
 use native.Mathlib.Omega.{arith}
 use lib.Dec.{eqb}
 use lib.ListN.{length, getD}
-use borrow.Author.Tests.{eqb-true, eqb-false, eq-eqb, ne-eqb}
-use Rattle.laws.proofs.Bools.{by-test}
-use Rattle.port_parts.specs.Parts.{blank, isFree, isSsp}
+use borrow.Author.Tests.{eqb-true, eqb-false}
+use Rattle.port_parts.specs.Parts.{blank}
 use Rattle.port_parts.specs.declared.Request.{Request}
 use Rattle.port_rules.specs.Kept.{Free}
-use Rattle.port_core.specs.Calls.{timed}
 use Rattle.port_core.specs.declared.Done.{Done}
 use Rattle.port_core.specs.declared.Loss.{Loss}
 use Rattle.port.specs.Calls.{spread, leftOf}
 use Rattle.port.specs.Grounds.{Absent}
 use Rattle.port.specs.History.{isLast}
-use Rattle.port.proofs.Begins.{left-at}
+use Rattle.port.proofs.Begins.{left-here, left-there}
+use Rattle.port_kept.proofs.Spreads.{by-spread}
 use Rattle.port_once.specs.Standing.{isSubmitted}
 use Rattle.port_once.specs.Turns.{keyed, Stays, OthersStay, Turns}
 
@@ -34,62 +33,43 @@ stays-there p q e = record { free = λ f. absurd (p f); present = λ _. (q, e) }
 pub spread-stays : (x : Loss) (r : Request) → Stays r (spread x r)
 spread-stays x r =
     record {
-      free = λ f. (λ i. cond (x .change && (not (eq-eqb (r .stage) 0 f i) && (isSsp (r .head) && eqb (r .head .destination) (x .destination)))) (timed r (x .timer)) r) ∙ off (x .change);
-      present = λ p. by-test (λ (b : Request). (Free b → ⊥) × (b .head ≡ r .head)) (x .change && (not (isFree r) && (isSsp (r .head) && eqb (r .head .destination) (x .destination)))) (λ _. (p, refl)) (λ _. (p, refl));
+      free = λ f. by-spread x (λ (b : Request). b ≡ r) r (λ h. absurd (h .1 .0 f)) (λ h. refl);
+      present = λ p. by-spread x (λ (b : Request). (Free b → ⊥) × (b .head ≡ r .head)) r (λ h. (p, refl)) (λ h. (p, refl));
     }
-  where
-    off : (t : Bool) → cond (t && false) (timed r (x .timer)) r ≡ r
-    off true = refl
-    off false = refl
 
-module _ (l : List Request) (d : Done) (len : length l ≡ 32) where
-  -- setup
-  pub cleared-at : d .cleared ≡ true → (i : ℕ) → i < 32 → getD (leftOf l d) i blank ≡ blank
-  cleared-at all i h = left-at l d i len h ∙ ap (λ (t : Bool). cond t blank (cond (eqb i (d .answer .slot)) (d .entry) (spread (d .loss) (getD l i blank)))) all
+module _ (l : List Request) (d : Done) (len : length l ≡ 32) (some : d .cleared ≡ false) where
+  others-stay : OthersStay l (leftOf l d) (d .answer)
+  others-stay i h other = subst (Stays (getD l i blank)) (sym (left-there l d len some i h other)) (spread-stays (d .loss) (getD l i blank))
 
-  module _ (some : d .cleared ≡ false) where
-    pub at-slot : d .answer .slot < 32 → getD (leftOf l d) (d .answer .slot) blank ≡ d .entry
-    at-slot h =
-        left-at l d (d .answer .slot) len h
-        ∙ (λ k. cond (some k) blank (cond (eq-eqb (d .answer .slot) (d .answer .slot) refl k) (d .entry) (spread (d .loss) (getD l (d .answer .slot) blank))))
+  pub comes : isSubmitted (d .answer .word) ≡ true → d .answer .slot < 32 → Free (getD l (d .answer .slot) blank) → ((i : ℕ) → i < d .answer .slot → Free (getD l i blank) → ⊥)
+      → Absent l (keyed (d .answer .frame .head)) → (Free (d .entry) → ⊥) → d .entry .head ≡ d .answer .frame .head → Turns l (leftOf l d) (d .answer)
+  comes word slot free lowest absent there head =
+      inl
+      (record {
+        word = word;
+        slot = slot;
+        free = free;
+        lowest = lowest;
+        absent = absent;
+        present = subst (λ (r : Request). Free r → ⊥) (sym (left-here l d len some slot)) there;
+        head = ap (λ (r : Request). r .head) (left-here l d len some slot) ∙ head;
+        others = others-stay;
+      })
 
-    pub elsewhere : (i : ℕ) → i < 32 → (i ≡ d .answer .slot → ⊥) → getD (leftOf l d) i blank ≡ spread (d .loss) (getD l i blank)
-    elsewhere i h other =
-        left-at l d i len h
-        ∙ (λ k. cond (some k) blank (cond (ne-eqb i (d .answer .slot) other k) (d .entry) (spread (d .loss) (getD l i blank))))
+  pub leaves : isLast (d .answer .word) ≡ true → d .answer .slot < 32 → (Free (getD l (d .answer .slot) blank) → ⊥) → getD l (d .answer .slot) blank .head ≡ d .answer .frame .head
+      → d .entry ≡ blank → Turns l (leftOf l d) (d .answer)
+  leaves word slot there head zeros =
+      inr (inl (record { word = word; slot = slot; present = there; head = head; zeros = left-here l d len some slot ∙ zeros; others = others-stay }))
 
-    others-stay : OthersStay l (leftOf l d) (d .answer)
-    others-stay i h other = subst (Stays (getD l i blank)) (sym (elsewhere i h other)) (spread-stays (d .loss) (getD l i blank))
-
-    pub comes : isSubmitted (d .answer .word) ≡ true → d .answer .slot < 32 → Free (getD l (d .answer .slot) blank) → ((i : ℕ) → i < d .answer .slot → Free (getD l i blank) → ⊥)
-        → Absent l (keyed (d .answer .frame .head)) → (Free (d .entry) → ⊥) → d .entry .head ≡ d .answer .frame .head → Turns l (leftOf l d) (d .answer)
-    comes word slot free lowest absent there head =
-        inl
-        (record {
-          word = word;
-          slot = slot;
-          free = free;
-          lowest = lowest;
-          absent = absent;
-          present = subst (λ (r : Request). Free r → ⊥) (sym (at-slot slot)) there;
-          head = ap (λ (r : Request). r .head) (at-slot slot) ∙ head;
-          others = others-stay;
-        })
-
-    pub leaves : isLast (d .answer .word) ≡ true → d .answer .slot < 32 → (Free (getD l (d .answer .slot) blank) → ⊥) → getD l (d .answer .slot) blank .head ≡ d .answer .frame .head
-        → d .entry ≡ blank → Turns l (leftOf l d) (d .answer)
-    leaves word slot there head zeros =
-        inr (inl (record { word = word; slot = slot; present = there; head = head; zeros = at-slot slot ∙ zeros; others = others-stay }))
-
-    -- a present request stays one, or the answer names none
-    pub rests : isSubmitted (d .answer .word) ≡ false → isLast (d .answer .word) ≡ false
-        → (d .answer .slot < 32 → (Free (getD l (d .answer .slot) blank) → ⊥) × ((getD l (d .answer .slot) blank .head ≡ d .answer .frame .head) × ((Free (d .entry) → ⊥) × (d .entry .head ≡ d .answer .frame .head))))
-        → Turns l (leftOf l d) (d .answer)
-    rests submitted last entry = inr (inr (record { submitted = submitted; last = last; named = λ h. (entry h .0, entry h .1 .0); all = λ i h. by i h (eqb i (d .answer .slot)) refl }))
-      where
-        by : (i : ℕ) → i < 32 → (t : Bool) → eqb i (d .answer .slot) ≡ t → Stays (getD l i blank) (getD (leftOf l d) i blank)
-        by i h true e =
-            let at : i ≡ d .answer .slot = eqb-true i (d .answer .slot) e in
-            let slot : d .answer .slot < 32 = omega (arith, at, h) in
-            subst (λ (k : ℕ). Stays (getD l k blank) (getD (leftOf l d) k blank)) (sym at) (subst (Stays (getD l (d .answer .slot) blank)) (sym (at-slot slot)) (stays-there (entry slot .0) (entry slot .1 .1 .0) (entry slot .1 .1 .1 ∙ sym (entry slot .1 .0))))
-        by i h false e = others-stay i h (eqb-false i (d .answer .slot) e)
+  -- a present request stays one, or the answer names none
+  pub rests : isSubmitted (d .answer .word) ≡ false → isLast (d .answer .word) ≡ false
+      → (d .answer .slot < 32 → (Free (getD l (d .answer .slot) blank) → ⊥) × ((getD l (d .answer .slot) blank .head ≡ d .answer .frame .head) × ((Free (d .entry) → ⊥) × (d .entry .head ≡ d .answer .frame .head))))
+      → Turns l (leftOf l d) (d .answer)
+  rests submitted last entry = inr (inr (record { submitted = submitted; last = last; named = λ h. (entry h .0, entry h .1 .0); all = λ i h. by i h (eqb i (d .answer .slot)) refl }))
+    where
+      by : (i : ℕ) → i < 32 → (t : Bool) → eqb i (d .answer .slot) ≡ t → Stays (getD l i blank) (getD (leftOf l d) i blank)
+      by i h true e =
+          let at : i ≡ d .answer .slot = eqb-true i (d .answer .slot) e in
+          let slot : d .answer .slot < 32 = omega (arith, at, h) in
+          subst (λ (k : ℕ). Stays (getD l k blank) (getD (leftOf l d) k blank)) (sym at) (subst (Stays (getD l (d .answer .slot) blank)) (sym (left-here l d len some slot)) (stays-there (entry slot .0) (entry slot .1 .1 .0) (entry slot .1 .1 .1 ∙ sym (entry slot .1 .0))))
+      by i h false e = others-stay i h (eqb-false i (d .answer .slot) e)

@@ -2,16 +2,16 @@
 -- changes it. So it is with a Cancel, and with the Close by which choose closes a phy for a request. Assumes nothing.
 use Prim.Native.Nat.{ℕ, _<_}
 use mathlib.Core.Path.{_≡_, refl, sym, ap, subst, _∙_}
-use mathlib.Core.Bool.{Bool, true, false, not, cond, _&&_, _||_}
+use mathlib.Core.Bool.{Bool, true, false, cond, _&&_, _||_}
 use mathlib.Core.List.{List, [], _∷_, _++_}
 use mathlib.Core.Logic.{inl, inr}
 use native.Mathlib.Omega.{arith}
 use lib.Dec.{eqb, ltb}
 use lib.ListN.{length, getD}
 use borrow.Author.Tests.{eqb-true, eqb-false, lt-ltb, ltb-true}
-use Rattle.laws.proofs.Bools.{never, and-right, and-true, and-false, by-test}
+use Rattle.laws.proofs.Bools.{never, and-right, and-true, and-false}
 use Rattle.open_frame.specs.declared.Head.{Head}
-use Rattle.port_parts.specs.Parts.{blank, isFree, isSsp}
+use Rattle.port_parts.specs.Parts.{blank}
 use Rattle.port_parts.specs.declared.Port.{Port}
 use Rattle.port_parts.specs.declared.Request.{Request}
 use Rattle.port_parts.specs.declared.Stamp.{Stamp}
@@ -26,18 +26,20 @@ use Rattle.port_core.specs.declared.Word.the-variants.{Taken, Submitted, Nothin
 use Rattle.port.specs.Calls.{spread, leftOf}
 use Rattle.port.specs.Grounds.{HasKey}
 use Rattle.port.specs.History.{State, Call, doneOf, steppedBy, isRefused, isLast, leave, run, Entry, entriesOf, history}
+use Rattle.port.proofs.Begins.{left-here, left-there}
+use Rattle.port_kept.proofs.Leaves.{taken-entry, by-step}
+use Rattle.port_kept.proofs.Spreads.{by-spread}
 use Rattle.port_once.specs.Standing.{isSetup, isSubmitted, isOf, accepts, speaks}
 use Rattle.port_once.specs.Turns.{keyed, Turns, Lawful}
 use Rattle.port_once.specs.Runs.{Run, now, past}
 use Rattle.port_once.specs.Marks.{isCancel, isAcknowledged, isGoing, isChoose, isClose, since, cancels, closes}
-use Rattle.port_once.proofs.Records.{at-slot, elsewhere}
 use Rattle.port_once.proofs.Cores.{turned}
 use Rattle.port_once.proofs.Marks.{Marks, marked-so}
-use Rattle.port_once.proofs.Steps.{Step, refused, taken, step, taken-state, taken-entry, setup-zeros}
-use Rattle.port_once.proofs.Histories.{words, OfKey, of-says, one-of-key, had}
-use Rattle.port_once.proofs.Turns.{lawful-of, same-answer, taken-so, taken-lawful, plain-by, leaves-when, rests-else}
+use Rattle.port_once.proofs.Steps.{first, first-zeros, setup-zeros}
+use Rattle.port_once.proofs.Histories.{words, OfKey, of-says, keyed-of, keyed-as, one-of-key, had}
+use Rattle.port_once.proofs.Turns.{same-answer, goes-on, taken-lawful, plain-by, leaves-when, rests-else}
 use Rattle.port_once.proofs.Runs.{Tells, tells-after}
-use Rattle.port_once.proofs.Leaving.{first, begins-zeros, begins-so, tells}
+use Rattle.port_once.proofs.Leaving.{first-tells, tells}
 
 -- ---- a mark
 
@@ -60,7 +62,7 @@ Shows k x h l = (i : ℕ) → i < 32 → HasKey (getD l i blank) x → eqb (k .o
 
 spread-mark : (k : Mark) (x : Loss) (r : Request) → k .of (spread x r) ≡ k .of r
 spread-mark k x r =
-    by-test (λ (q : Request). k .of q ≡ k .of r) (x .change && (not (isFree r) && (isSsp (r .head) && eqb (r .head .destination) (x .destination)))) (λ _. k .timers r (x .timer)) (λ _. refl)
+    by-spread x (λ (q : Request). k .of q ≡ k .of r) r (λ h. k .timers r (x .timer)) (λ h. refl)
 
 -- ---- one call that is taken and no setup
 
@@ -85,7 +87,7 @@ module _ (k : Mark) (p : Port) (l : List Request) (c : Call) (d : Done) (len : l
   here below has = by turns
     where
       mark : k .of (getD m (a .slot) blank) ≡ k .of (d .entry)
-      mark = ap (k .of) (at-slot l d len (marks .some) below)
+      mark = ap (k .of) (left-here l d len (marks .some) below)
 
       by : Turns l m a → set (getD m (a .slot) blank) ≡ since (k .kind) x (e ∷ h)
       by (inl come) =
@@ -107,7 +109,7 @@ module _ (k : Mark) (p : Port) (l : List Request) (c : Call) (d : Done) (len : l
   other i below away has = by turns
     where
       mark : k .of (getD m i blank) ≡ k .of (getD l i blank)
-      mark = ap (k .of) (elsewhere l d len (marks .some) i below away) ∙ spread-mark k (d .loss) (getD l i blank)
+      mark = ap (k .of) (left-there l d len (marks .some) i below away) ∙ spread-mark k (d .loss) (getD l i blank)
 
       -- no other request has the key
       unnamed : HasKey (getD l i blank) x → a .slot < 32 → (Free (getD l (a .slot) blank) → ⊥) → getD l (a .slot) blank .head ≡ a .frame .head → isOf (a .frame .head) x ≡ false
@@ -132,8 +134,7 @@ module _ (k : Mark) (p : Port) (l : List Request) (c : Call) (d : Done) (len : l
         where
           absent-of : (t : Bool) → isOf (a .frame .head) x ≡ t → HasKey (getD l i blank) x → t ≡ false
           absent-of true is was =
-              let key = of-says (a .frame .head) x .0 is in
-              absurd (come .absent i below (was .0, (was .1 .0 ∙ sym (key .0), (was .1 .1 .0 ∙ sym (key .1 .0), was .1 .1 .1 ∙ sym (key .1 .1)))))
+              absurd (come .absent i below (was .0, keyed-as (getD l i blank .head) (a .frame .head) x (was .1) (of-says (a .frame .head) x .0 is)))
           absent-of false is was = refl
       by (inr (inl go)) =
           let was = had x (go .others i below away) has in
@@ -162,18 +163,14 @@ none-there k x h l zeros i below has = absurd (has .0 (ap (λ (r : Request). r .
 
 module _ (k : Mark) where
   shows-after : (c : Call) (s : State) (h : List Entry) → Tells h s → (x : Key) → Shows k x h (s .list) → Shows k x (entriesOf c s ++ h) (leave c s .list)
-  shows-after c s h t x before = by (step c s (t .list))
+  shows-after c s h t x before = by-step c s (λ (u : State) (es : List Entry). Shows k x (es ++ h) (u .list)) (λ off. before) (λ size on. kind on (isSetup c) refl)
     where
-      by : Step c s → Shows k x (entriesOf c s ++ h) (leave c s .list)
-      by (refused off stays empty) = subst (λ (es : List Entry). Shows k x (es ++ h) (leave c s .list)) (sym empty) (subst (λ (u : State). Shows k x h (u .list)) (sym stays) before)
-      by (taken on is entered) =
-          subst (λ (es : List Entry). Shows k x (es ++ h) (leave c s .list)) (sym entered) (subst (λ (u : State). Shows k x (taken-entry c s ∷ h) (u .list)) (sym is) (plain-or-not (isSetup c) refl))
-        where
-          plain-or-not : (b : Bool) → isSetup c ≡ b → Shows k x (taken-entry c s ∷ h) (taken-state c s .list)
-          plain-or-not true e = none-there k x (taken-entry c s ∷ h) (taken-state c s .list) (setup-zeros c s (t .list) e on)
-          plain-or-not false e =
-              let ok = lawful-of c s (t .list) (t .phys) e on in
-              shows-on k (s .port) (s .list) c (doneOf c s) (t .list) (ok .kept) e (k .laws s ok c e on) (turned s ok c e on) x h before
+      d : Done
+      d = doneOf c s
+
+      kind : isRefused (d .answer .word) ≡ false → (b : Bool) → isSetup c ≡ b → Shows k x (taken-entry c s d ∷ h) (leftOf (s .list) d)
+      kind on true e = none-there k x (taken-entry c s d ∷ h) (leftOf (s .list) d) (setup-zeros c s (t .ok .list) e on)
+      kind on false e = shows-on k (s .port) (s .list) c d (t .ok .list) (t .ok .sound .kept) e (k .laws s (t .ok) c e on) (turned s (t .ok) c e on) x h before
 
   shows-run : (cs : List Call) (s : State) (h : List Entry) → Tells h s → (x : Key) → Shows k x h (s .list) → Shows k x (history cs s h) (run cs s .list)
   shows-run [] s h t x before = before
@@ -182,8 +179,8 @@ module _ (k : Mark) where
   -- from a setup on
   shows : (r : Run) (x : Key) → Shows k x (past r) (now r .list)
   shows r x =
-      shows-run (r .calls) (leave (first r) (r .lent)) (entriesOf (first r) (r .lent) ++ []) (begins-so r) x
-      (none-there k x (entriesOf (first r) (r .lent) ++ []) (leave (first r) (r .lent) .list) (begins-zeros r))
+      shows-run (r .calls) (leave (first r) (r .lent)) (entriesOf (first r) (r .lent) ++ []) (first-tells r) x
+      (none-there k x (entriesOf (first r) (r .lent) ++ []) (leave (first r) (r .lent) .list) (first-zeros r))
 
 -- ---- the two marks
 
@@ -252,14 +249,14 @@ module _ (r : Run) (c : Call) where
   known = keyed (said .frame .head)
 
   eight : length (s .port .phys) ≡ 8
-  eight = tells r .phys
+  eight = tells r .ok .sound .eight
 
   marks : isSetup c ≡ false → isRefused (said .word) ≡ false → Marks (s .list) (isCancel c) (isChoose c) (doneOf c s)
-  marks plain on = marked-so s (taken-lawful c s eight plain on) c plain (taken-so c s eight on)
+  marks plain on = marked-so s (taken-lawful c s eight plain on) c plain (goes-on c s eight on)
 
   -- the mark of the request that the answer names
   named : (k : Mark) → said .slot < 32 → (Free (getD (s .list) (said .slot) blank) → ⊥) → getD (s .list) (said .slot) blank .head ≡ said .frame .head → eqb (k .of (getD (s .list) (said .slot) blank)) 1 ≡ since (k .kind) known (past r)
-  named k below present head = shows k r known (said .slot) below (present, (ap (λ (h : Head). h .destination) head, (ap (λ (h : Head). h .protocol) head, ap (λ (h : Head). h .tag) head)))
+  named k below present head = shows k r known (said .slot) below (present, keyed-of head)
 
   -- a last word is Cancel Acknowledged exactly if this call is a Cancel or one was taken since the submit
   pub acknowledged : isLast (said .word) ≡ true → isAcknowledged (said .word) ≡ isCancel c || since cancels known (past r)

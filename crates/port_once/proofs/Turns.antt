@@ -6,8 +6,10 @@ use mathlib.Core.List.{List, [], _∷_}
 use mathlib.Core.Logic.{inl, inr}
 use native.Mathlib.Omega.{arith}
 use lib.ListN.{length, getD}
+use borrow.Author.Tests.{not-false}
 use Rattle.laws.proofs.Bools.{never}
 use Rattle.refusals.specs.declared.Refusal.{Refusal}
+use Rattle.refusals.proofs.Causes.{NoneGiven}
 use Rattle.port_parts.specs.Parts.{blank}
 use Rattle.port_parts.specs.declared.Request.{Request}
 use Rattle.port_rules.specs.Rules.{rules}
@@ -16,14 +18,15 @@ use Rattle.port_core.specs.declared.Answer.{Answer}
 use Rattle.port_core.specs.declared.Word.{Word}
 use Rattle.port_core.specs.declared.Word.the-variants.{Taken, Refused}
 use Rattle.port.specs.Calls.{leftOf, on32}
-use Rattle.port.specs.History.{State, Call, doneOf, steppedBy, isRefused, isLast, leave, entriesOf}
+use Rattle.port.specs.History.{State, Call, setup, submit, cancel, choose, opened, openFailed, frameStatus, closed, enable, disable, doneOf, steppedBy, isRefused, isLast, leave, entriesOf}
 use Rattle.port.specs.declared.Stepped.{Stepped}
+use Rattle.port.proofs.Refusals.{causesOf, behind}
+use Rattle.port_kept.proofs.Leaves.{by-taken, when-taken, taken-so}
 use Rattle.port_once.specs.Standing.{isSetup, isSubmitted}
 use Rattle.port_once.specs.Turns.{Comes, Leaves, Rests, Turns, Lawful}
 use Rattle.port_once.proofs.Records.{stays-self}
-use Rattle.port_once.proofs.Passes.{by-taken, rules-checked}
 use Rattle.port_once.proofs.Cores.{turned}
-use Rattle.port_once.proofs.Steps.{Step, refused, taken, step, answers, taken-long, refused-names-none, setup-says}
+use Rattle.port_once.proofs.Steps.{answers, taken-long, refused-names-none, setup-says}
 use Rattle.port_once.proofs.Histories.{words}
 
 -- a call that is refused adds nothing and changes nothing
@@ -33,10 +36,24 @@ refused-nothing c s e = (
   ap (λ (t : Bool). cond t [] (record { call = c; answer = steppedBy c s .answer } ∷ [])) e,
 )
 
--- a call but setup is taken only of a lawful state
+-- every call but setup checks the rules
+pub rules-checked : (c : Call) (s : State) → isSetup c ≡ false → NoneGiven (behind (causesOf c s)) → rules (s .port) (s .list) ≡ true
+unfolding causesOf
+rules-checked (setup count loss) s e pass = absurd (never (sym e))
+rules-checked (submit x) s e pass = not-false (rules (s .port) (s .list)) (pass .1 .0)
+rules-checked (cancel x) s e pass = not-false (rules (s .port) (s .list)) (pass .1 .0)
+rules-checked (choose x) s e pass = not-false (rules (s .port) (s .list)) (pass .0)
+rules-checked (opened x) s e pass = not-false (rules (s .port) (s .list)) (pass .0)
+rules-checked (openFailed x) s e pass = not-false (rules (s .port) (s .list)) (pass .1 .0)
+rules-checked (frameStatus x) s e pass = not-false (rules (s .port) (s .list)) (pass .0)
+rules-checked (closed x) s e pass = not-false (rules (s .port) (s .list)) (pass .0)
+rules-checked (enable x) s e pass = not-false (rules (s .port) (s .list)) (pass .0)
+rules-checked (disable x) s e pass = not-false (rules (s .port) (s .list)) (pass .0)
+
+-- so such a call is taken only of a lawful state
 pub lawful-of : (c : Call) (s : State) → length (s .list) ≡ 32 → length (s .port .phys) ≡ 8 → isSetup c ≡ false → isRefused (doneOf c s .answer .word) ≡ false → Lawful s
 lawful-of c s long eight plain on =
-    record { list = long; phys = eight; kept = rules-say (s .port) (s .list) .0 (by-taken (λ _. rules (s .port) (s .list) ≡ true) c s (rules-checked c s plain) on) }
+    record { list = long; sound = record { eight = eight; kept = rules-say (s .port) (s .list) .0 (by-taken c s (λ _. rules (s .port) (s .list) ≡ true) (rules-checked c s plain) on) } }
 
 -- a port has eight phys
 module _ (c : Call) (s : State) (eight : length (s .port .phys) ≡ 8) where
@@ -53,18 +70,16 @@ module _ (c : Call) (s : State) (eight : length (s .port .phys) ≡ 8) where
   pub same-answer : isRefused (said .word) ≡ false → said ≡ doneOf c s .answer
   same-answer on = ap (λ (r : Stepped). r .answer) (answers c s (taken-long c s on))
 
-  pub taken-so : isRefused (said .word) ≡ false → isRefused (doneOf c s .answer .word) ≡ false
-  taken-so on = ap (λ (a : Answer). isRefused (a .word)) (sym (same-answer on)) ∙ on
+  pub goes-on : isRefused (said .word) ≡ false → isRefused (doneOf c s .answer .word) ≡ false
+  goes-on on = ap (λ (a : Answer). isRefused (a .word)) (sym (same-answer on)) ∙ on
 
   pub taken-lawful : isSetup c ≡ false → isRefused (said .word) ≡ false → Lawful s
-  taken-lawful plain on = lawful-of c s (taken-long c s on) eight plain (taken-so on)
+  taken-lawful plain on = lawful-of c s (taken-long c s on) eight plain (goes-on on)
 
   turns-of : isSetup c ≡ false → isRefused (said .word) ≡ false → Turns l m said
-  turns-of plain on = by (step c s (taken-long c s on))
-    where
-      by : Step c s → Turns l m said
-      by (refused off stays none) = absurd (never (sym (taken-so on) ∙ off))
-      by (taken yet is one) = subst (Turns l m) (sym (same-answer on)) (subst (λ (t : State). Turns l (t .list) (doneOf c s .answer)) (sym is) (turned s (taken-lawful plain on) c plain yet))
+  turns-of plain on =
+      subst (λ (t : State). Turns l (t .list) said) (sym (taken-so c s (steppedBy c s) (on32 l (leftOf l (doneOf c s)) l) (refl, refl) on))
+      (when-taken c s (λ (r : Stepped) (n : List Request). Turns l n (r .answer)) (λ size yet. turned s (lawful-of c s size eight plain yet) c plain yet) on)
 
   -- a word on a request is no setup's
   pub plain-by : (f : Word → Bool) → f Taken ≡ false → ((k : Refusal) → f (Refused k) ≡ false) → isRefused (said .word) ≡ false → f (said .word) ≡ true → isSetup c ≡ false

@@ -8,11 +8,12 @@ use lib.ListN.{length, getD}
 use Rattle.open_frame.specs.declared.Head.{Head}
 use Rattle.port_parts.specs.Parts.{blank}
 use Rattle.port_parts.specs.declared.Request.{Request}
-use Rattle.port_rules.specs.Kept.{Free, Kept}
+use Rattle.port_rules.specs.Kept.{Free}
 use Rattle.port_core.specs.declared.Answer.{Answer}
 use Rattle.port_core.specs.declared.Key.{Key}
 use Rattle.port.specs.Grounds.{HasKey, Absent}
 use Rattle.port.specs.History.{State, Call, leave, isLast}
+use Rattle.port_kept.specs.Sound.{Sound}
 use Rattle.port_once.specs.Standing.{Standing, gone, there, wrong, isSubmitted}
 
 abbrev pub keyed : Head → Key
@@ -63,11 +64,10 @@ Holds x gone l = Absent l x
 Holds x (there slot head) l = (slot < 32) × (HasKey (getD l slot blank) x × (getD l slot blank .head ≡ head))
 Holds x wrong l = ⊥
 
--- a lent state: its lists are as long as their types say, and it keeps the rules
+-- a lent state that a call may take: 32 records, eight phys, and the rules
 pub record Lawful (s : State) : Type 0 where
   pub list : length (s .list) ≡ 32
-  pub phys : length (s .port .phys) ≡ 8
-  pub kept : Kept (s .port) (s .list)
+  pub sound : Sound s
 
 -- 01 PORT.11
 -- every free record is all zeros
