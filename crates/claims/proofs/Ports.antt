@@ -1,4 +1,4 @@
--- What is shown of the port so far: its choice is the right one, its test of a lent state says document 01's rules, a call is refused exactly by
+-- What is shown of the port: its choice is the right one, its test of a lent state says document 01's rules, a call is refused exactly by
 -- the first ground that holds and then leaves every record, each call keeps the rules, so that no state that calls leave is refused, and a
 -- running loss timer runs on. Each call's promise is the definition that these speak of. Assumes nothing.
 use Prim.Native.Nat.{ℕ, _≤_, _<_}
@@ -29,13 +29,16 @@ use Rattle.port_rules.proofs.Facts.{rules-say}
 use Rattle.port_core.specs.Answers.{fresh, refusedBy}
 use Rattle.port_core.specs.Calls.{bare}
 use Rattle.port_core.specs.declared.Word.the-variants.{Taken, Refused}
-use Rattle.port.specs.Calls.{leftOf, Called}
+use Rattle.port.specs.Calls.{leftOf, Called, pickAt}
+use Rattle.port.specs.Chooses.{Tells}
 use Rattle.port.specs.Grounds.{groundsOf}
-use Rattle.port.specs.History.{State, Call, setup, doneOf, shortOf, steppedBy, isRefused, leave, run}
+use Rattle.port.specs.History.{State, Call, setup, choose, doneOf, shortOf, steppedBy, isRefused, leave, run}
+use Rattle.port.specs.declared.Moment.{Moment}
 use Rattle.port.specs.declared.Stepped.{Stepped}
 use Rattle.port.proofs.Promised.{refused-leaves}
 use Rattle.port.proofs.Refusals.{refused-exactly}
 use Rattle.port.proofs.Begins.{setup-kept}
+use Rattle.port.proofs.Chooses.{choose-tells}
 use Rattle.port_kept.specs.Ranged.{Ranged}
 use Rattle.port_kept.proofs.Leaves.{taken-so, refused-so}
 use Rattle.port_kept.proofs.Runs.{kept-sound, kept-since, run-length, never-three-since}
@@ -44,6 +47,8 @@ use Rattle.port_kept.proofs.Runs.{kept-sound, kept-since, run-length, never-thr
 pub record Ports : Type 1 where
   pub chooses : (x : Asked) (l : List Request) → length (x .phys) ≡ 8 → Right (x .phys) (x .now) l (chosenOf x l 32)
   pub nothing : (ps : List Phy) (now : ℕ) (l : List Request) (p : Pick) → Right ps now l p → (p .step ≡ 0) ↔ ((i k step : ℕ) → i < 32 → k < 8 → Fits ps now l i k step → ⊥)
+  -- and choose, where it is not refused, answers that pick
+  pub answers : (s : State) (x : Moment) → isRefused (steppedBy (choose x) s .answer .word) ≡ false → Tells (pickAt (s .list) (s .port) (x .now)) (steppedBy (choose x) s .answer)
   -- 01 TRAP.3
   pub timer : (stops starts : Reason → Bool) (why : Reason) (t : Stamp) (now : ℕ) → stops why ≡ false → isSet t ≡ true → timerBy (stops why) (starts why) t now ≡ t
   -- 01 PORT.4 01 PORT.5 01 PORT.6 01 PORT.7 01 PORT.8 01 PORT.9 01 PORT.10
@@ -70,6 +75,7 @@ pub ports : Ports
 ports = record {
   chooses = choose-right;
   nothing = nothing-exactly;
+  answers = choose-tells;
   timer = runs-on;
   kept = rules-say;
   begins = setup-kept;

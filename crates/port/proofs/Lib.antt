@@ -14,3 +14,4 @@ pub mod Told
 pub mod Promised
 pub mod Refusals
 pub mod Begins
+pub mod Chooses

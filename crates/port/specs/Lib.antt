@@ -4,3 +4,4 @@ pub mod Scans
 pub mod Walk
 pub mod History
 pub mod Grounds
+pub mod Chooses
