@@ -41,7 +41,7 @@ use Rattle.port_kept.proofs.Ways.{by-cancelled, by-chosen}
 
 -- ---- what the scans of submit and cancel found
 
-pub free-there : (l : List Request) (n : ℕ) → Found blank isFree l 32 32 n → n < 32 → Free (getD l n blank)
+free-there : (l : List Request) (n : ℕ) → Found blank isFree l 32 32 n → n < 32 → Free (getD l n blank)
 free-there l n (none e nil) h = absurd (omega arith)
 free-there l n (at m t nil) h = eqb-true (getD l n blank .stage) 0 t
 
