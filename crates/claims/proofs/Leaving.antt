@@ -1,6 +1,6 @@
 -- Each accepted submit of the port leaves by one last word, and is present until then, over any calls from a setup on, refused calls and
 -- later setups among them. What was submitted and what ended is read from the calls that were taken and their answers alone. A state that breaks
--- its rules is refused, so that nothing of this rests on their being kept, but that a request can leave. Assumes nothing.
+-- its rules is refused, and no call leaves one, so that nothing is asked of the rules. Assumes nothing.
 use Prim.Native.Nat.{ℕ, _+_, _<_}
 use mathlib.Core.Bool.{true, false, _||_}
 use mathlib.Core.List.{List, []}

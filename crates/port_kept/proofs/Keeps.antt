@@ -41,7 +41,7 @@ use Rattle.port_kept.proofs.Ways.{by-cancelled, by-chosen}
 
 -- ---- what the scans of submit and cancel found
 
-pub free-there : (l : List Request) (n : ℕ) → Found blank isFree l 32 32 n → n < 32 → Free (getD l n blank)
+free-there : (l : List Request) (n : ℕ) → Found blank isFree l 32 32 n → n < 32 → Free (getD l n blank)
 free-there l n (none e nil) h = absurd (omega arith)
 free-there l n (at m t nil) h = eqb-true (getD l n blank .stage) 0 t
 
@@ -62,15 +62,12 @@ chosen-eight p r b now eight = by-chosen Eight p r b now (λ t. length-set (p .p
 
 -- ---- the calls
 
-is-32 : (l : List Request) → not (eqb (length l) 32) ≡ false → length l ≡ 32
-is-32 l e = eqb-true (length l) 32 (not-false (eqb (length l) 32) e)
-
 -- an accepted setup leaves one, whatever it was lent
 pub setup-sound : (count loss : ℕ) (s : State) → (isRefused (steppedBy (setup count loss) s .answer .word) ≡ true → Sound s) → Sound (leave (setup count loss) s)
 unfolding causesOf takenOf
 setup-sound count loss s stays =
     by-call (setup count loss) s Sound stays
-    (λ passed. record { eight = length-replicate 8 off; kept = setup-kept count loss (s .list) (is-32 (s .list) (passed .0)) (range-says count loss .0 (not-false (inRange count loss) (passed .1 .0))) })
+    (λ size passed. record { eight = length-replicate 8 off; kept = setup-kept count loss (s .list) size (range-says count loss .0 (not-false (inRange count loss) (passed .0))) })
 
 -- what a phy's call that is taken found: the phy is one of the port's, the time has come, and the call fits
 pub phy-ok : (p : Port) (l : List Request) (k now : ℕ) (unfit : Bool) → NoneGiven (phyCauses p (rules p l) k now unfit) → (k < p .count) × ((p .last ≤ now) × (unfit ≡ false))
@@ -93,19 +90,19 @@ module _ (s : State) (was : Sound s) where
   unfolding causesOf takenOf
   keeps (setup count loss) = setup-sound count loss s (λ e. was)
   keeps (submit x) =
-      by-call (submit x) s Sound (λ e. was) (λ passed. record {
+      by-call (submit x) s Sound (λ e. was) (λ size passed. record {
         eight = was .eight;
         kept =
-            submit-keeps p l (is-32 l (passed .0)) (was .eight) (was .kept) x (ltb-false (x .now) (p .last) (passed .1 .1 .1 .0)) (not-false (headListed (x .head)) (passed .1 .0)) (λ there. never (sym (passed .1 .1 .1 .1 .0) ∙ present-says l (x .head) .1 there))
+            submit-keeps p l size (was .eight) (was .kept) x (ltb-false (x .now) (p .last) (passed .1 .1 .0)) (not-false (headListed (x .head)) (passed .0)) (λ there. never (sym (passed .1 .1 .1 .0) ∙ present-says l (x .head) .1 there))
             (free-there l (roomOf l (x .head) .free) (lowest-free l (x .head)));
       })
   keeps (cancel x) =
       by-call (cancel x) s Sound (λ e. was)
-      (λ passed.
-      let found : i < 32 = leb-false 32 i (nor (leb 32 i) (isCancelled r) (passed .1 .1 .1 .1 .0) .0) in
+      (λ size passed.
+      let found : i < 32 = leb-false 32 i (nor (leb 32 i) (isCancelled r) (passed .1 .1 .1 .0) .0) in
       record {
         eight = cancelled-eight p r i (x .now) (was .eight);
-        kept = cancel-keeps p l (is-32 l (passed .0)) (was .eight) (was .kept) i (x .now) found (ltb-false (x .now) (p .last) (passed .1 .1 .1 .0)) (key-there l (x .key) i (key-found l (x .key)) found);
+        kept = cancel-keeps p l size (was .eight) (was .kept) i (x .now) found (ltb-false (x .now) (p .last) (passed .1 .1 .0)) (key-there l (x .key) i (key-found l (x .key)) found);
       })
     where
       i : ℕ
@@ -114,34 +111,34 @@ module _ (s : State) (was : Sound s) where
       r : Request
       r = getD l i blank
   keeps (choose x) =
-      by-call (choose x) s Sound (λ e. was) (λ passed. record {
+      by-call (choose x) s Sound (λ e. was) (λ size passed. record {
         eight = chosen-eight p (getD l (b .slot) blank) b (x .now) (was .eight);
-        kept = choose-keeps p l (is-32 l (passed .0)) (was .eight) (was .kept) (x .now) (ltb-false (x .now) (p .last) (passed .1 .1 .0)) b (choose-right (record { phys = p .phys; now = x .now }) l (was .eight));
+        kept = choose-keeps p l size (was .eight) (was .kept) (x .now) (ltb-false (x .now) (p .last) (passed .1 .0)) b (choose-right (record { phys = p .phys; now = x .now }) l (was .eight));
       })
     where
       b : Pick
       b = pickAt l p (x .now)
   keeps (opened x) =
-      by-call (opened x) s Sound (λ e. was) (λ passed.
-      let ok = phy-ok p l (x .phy) (x .now) (not (isOpening (phyAt p (x .phy)))) (passed .1) in
-      record { eight = eight-set (x .phy) _; kept = opened-keeps p l (is-32 l (passed .0)) (was .eight) (was .kept) (x .phy) (x .now) (ok .0) (ok .1 .0) (in-stage (x .phy) 2 (ok .1 .1)) })
+      by-call (opened x) s Sound (λ e. was) (λ size passed.
+      let ok = phy-ok p l (x .phy) (x .now) (not (isOpening (phyAt p (x .phy)))) passed in
+      record { eight = eight-set (x .phy) _; kept = opened-keeps p l size (was .eight) (was .kept) (x .phy) (x .now) (ok .0) (ok .1 .0) (in-stage (x .phy) 2 (ok .1 .1)) })
   keeps (openFailed x) =
-      by-call (openFailed x) s Sound (λ e. was) (λ passed.
-      let ok = phy-ok p l (x .phy) (x .now) (not (isOpening (phyAt p (x .phy)))) (passed .1 .1) in
-      record { eight = eight-set (x .phy) _; kept = failed-keeps p l (is-32 l (passed .0)) (was .eight) (was .kept) (x .phy) (x .now) (ok .0) (ok .1 .0) (in-stage (x .phy) 2 (ok .1 .1)) (reasonOf (x .why)) })
+      by-call (openFailed x) s Sound (λ e. was) (λ size passed.
+      let ok = phy-ok p l (x .phy) (x .now) (not (isOpening (phyAt p (x .phy)))) (passed .1) in
+      record { eight = eight-set (x .phy) _; kept = failed-keeps p l size (was .eight) (was .kept) (x .phy) (x .now) (ok .0) (ok .1 .0) (in-stage (x .phy) 2 (ok .1 .1)) (reasonOf (x .why)) })
   keeps (frameStatus x) =
-      by-call (frameStatus x) s Sound (λ e. was) (λ passed.
-      let ok = phy-ok p l (x .phy) (x .now) (not (hasFrameOut (phyAt p (x .phy)))) (passed .1) in
-      record { eight = eight-set (x .phy) _; kept = status-keeps p l (is-32 l (passed .0)) (was .eight) (was .kept) (x .phy) (x .now) (ok .0) (ok .1 .0) (x .status) })
+      by-call (frameStatus x) s Sound (λ e. was) (λ size passed.
+      let ok = phy-ok p l (x .phy) (x .now) (not (hasFrameOut (phyAt p (x .phy)))) passed in
+      record { eight = eight-set (x .phy) _; kept = status-keeps p l size (was .eight) (was .kept) (x .phy) (x .now) (ok .0) (ok .1 .0) (x .status) })
   keeps (closed x) =
-      by-call (closed x) s Sound (λ e. was) (λ passed.
-      let ok = phy-ok p l (x .phy) (x .now) (not (isJoined (phyAt p (x .phy)))) (passed .1) in
-      record { eight = eight-set (x .phy) _; kept = closed-keeps p l (is-32 l (passed .0)) (was .eight) (was .kept) (x .phy) (x .now) (ok .0) (ok .1 .0) })
+      by-call (closed x) s Sound (λ e. was) (λ size passed.
+      let ok = phy-ok p l (x .phy) (x .now) (not (isJoined (phyAt p (x .phy)))) passed in
+      record { eight = eight-set (x .phy) _; kept = closed-keeps p l size (was .eight) (was .kept) (x .phy) (x .now) (ok .0) (ok .1 .0) })
   keeps (enable x) =
-      by-call (enable x) s Sound (λ e. was) (λ passed.
-      let ok = phy-ok p l (x .phy) (x .now) (not (isDisabled (phyAt p (x .phy)))) (passed .1) in
-      record { eight = eight-set (x .phy) _; kept = enable-keeps p l (is-32 l (passed .0)) (was .eight) (was .kept) (x .phy) (x .now) (ok .0) (ok .1 .0) (in-stage (x .phy) 0 (ok .1 .1)) })
+      by-call (enable x) s Sound (λ e. was) (λ size passed.
+      let ok = phy-ok p l (x .phy) (x .now) (not (isDisabled (phyAt p (x .phy)))) passed in
+      record { eight = eight-set (x .phy) _; kept = enable-keeps p l size (was .eight) (was .kept) (x .phy) (x .now) (ok .0) (ok .1 .0) (in-stage (x .phy) 0 (ok .1 .1)) })
   keeps (disable x) =
-      by-call (disable x) s Sound (λ e. was) (λ passed.
-      let ok = phy-ok p l (x .phy) (x .now) (isDisabled (phyAt p (x .phy))) (passed .1) in
-      record { eight = eight-set (x .phy) _; kept = disable-keeps p l (is-32 l (passed .0)) (was .eight) (was .kept) (x .phy) (x .now) (ok .0) (ok .1 .0) })
+      by-call (disable x) s Sound (λ e. was) (λ size passed.
+      let ok = phy-ok p l (x .phy) (x .now) (isDisabled (phyAt p (x .phy))) passed in
+      record { eight = eight-set (x .phy) _; kept = disable-keeps p l size (was .eight) (was .kept) (x .phy) (x .now) (ok .0) (ok .1 .0) })

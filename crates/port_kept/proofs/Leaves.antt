@@ -1,11 +1,11 @@
 -- A call leaves the state where it is refused; else its causes were all passed, and it leaves what its core does. So what holds of the
 -- state before, and of what the core leaves, holds of what the call leaves. Assumes nothing.
 use mathlib.Core.Path.{_≡_, refl, sym, ap, subst, _∙_}
-use mathlib.Core.Bool.{Bool, true, false, not, cond}
+use mathlib.Core.Bool.{Bool, true, false, cond}
 use mathlib.Core.List.{List, [], _∷_}
 use lib.Dec.{eqb}
 use lib.ListN.{length}
-use borrow.Author.Tests.{eqb-true, eq-eqb}
+use borrow.Author.Tests.{eqb-true}
 use Rattle.laws.proofs.Bools.{never}
 use Rattle.refusals.specs.declared.Refusal.{Refusal}
 use Rattle.refusals.proofs.Causes.{NoneGiven, by-causes}
@@ -20,7 +20,7 @@ use Rattle.port.specs.History.{State, Call, doneOf, shortOf, steppedBy, isRefus
 use Rattle.port.specs.declared.Stepped.{Stepped}
 use Rattle.port.proofs.Begins.{left-length}
 use Rattle.port.proofs.Promised.{refused-leaves}
-use Rattle.port.proofs.Refusals.{causesOf, takenOf, behind, length-first, done-is, short-is, taken-word}
+use Rattle.port.proofs.Refusals.{causesOf, takenOf, behind, done-is, short-is, taken-word}
 
 module _ (c : Call) (s : State) where
   abbrev l : List Request
@@ -79,11 +79,8 @@ module _ (c : Call) (s : State) where
       by true e = stays e
       by false e = when-taken (λ (r : Stepped) (m : List Request). P (record { port = r .port; list = m }) (record { call = c; answer = r .answer } ∷ [])) goes e
 
-  pub by-call : (P : State → Type 0) → (isRefused said ≡ true → P s) → (NoneGiven (causesOf c s) → P (taken-state (takenOf c s))) → P (leave c s)
-  by-call P stays goes = by-step (λ (t : State) (es : List Entry). P t) stays (λ size. by-taken (λ (d : Done). P (taken-state d)) (λ off. goes (all-passed size off)))
-    where
-      all-passed : length l ≡ 32 → NoneGiven (behind (causesOf c s)) → NoneGiven (causesOf c s)
-      all-passed size off = subst NoneGiven (sym (length-first c s)) (λ i. not (eq-eqb (length l) 32 size i), off)
+  pub by-call : (P : State → Type 0) → (isRefused said ≡ true → P s) → (length l ≡ 32 → NoneGiven (behind (causesOf c s)) → P (taken-state (takenOf c s))) → P (leave c s)
+  by-call P stays goes = by-step (λ (t : State) (es : List Entry). P t) stays (λ size. by-taken (λ (d : Done). P (taken-state d)) (goes size))
 
   -- a call leaves as many records as it was lent
   pub leave-length : length (leave c s .list) ≡ length l

@@ -3,8 +3,8 @@ pub mod Ways
 mod Links
 pub mod Holds
 pub mod Spreads
-mod Changes
-mod Enters
+pub mod Changes
+pub mod Enters
 mod Parted
 mod Opens
 mod Lates

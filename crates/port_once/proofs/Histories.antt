@@ -6,7 +6,6 @@ use mathlib.Core.Bool.{Bool, true, false, cond, _&&_}
 use mathlib.Core.List.{List, [], _∷_}
 use mathlib.Core.Logic.{_⊎_, inl, inr}
 use native.Mathlib.Omega.{arith}
-use native.Mathlib.Decide.{decLt}
 use lib.Dec.{eqb, ltb}
 use lib.ListN.{getD}
 use borrow.Author.Tests.{eqb-true, eqb-false, eq-eqb, ltb-true}
@@ -17,13 +16,15 @@ use Rattle.open_frame.specs.declared.Head.{Head}
 use Rattle.port_parts.specs.Parts.{blank}
 use Rattle.port_parts.specs.declared.Port.{Port}
 use Rattle.port_parts.specs.declared.Request.{Request}
-use Rattle.port_rules.specs.Kept.{Free, Kept, SameKey}
+use Rattle.port_rules.specs.Kept.{Free, Kept}
 use Rattle.port_core.specs.declared.Answer.{Answer}
 use Rattle.port_core.specs.declared.Key.{Key}
 use Rattle.port_core.specs.declared.Word.{Word}
 use Rattle.port_core.specs.declared.Word.the-variants.{Taken, Submitted, Nothing, Send, Open, Close, StopArb, Retried, Waiting, CancelAcknowledged, Ended, NexusLoss, ConnectionLost, Status, Refused}
 use Rattle.port.specs.Grounds.{HasKey, Absent}
 use Rattle.port.specs.History.{Call, Entry, isLast, isRefused}
+use Rattle.port_kept.proofs.Changes.{same-or}
+use Rattle.port_kept.proofs.Enters.{beside}
 use Rattle.port_once.specs.Standing.{isSetup, isSubmitted, isOf, accepts, ends, speaks, submits, lastWords, Standing, gone, there, wrong, sameHead, agrees, accepted, ended, spoken, after, standing}
 use Rattle.port_once.specs.Turns.{keyed, Stays, OthersStay, Comes, Leaves, Rests, Turns, Holds}
 
@@ -108,13 +109,11 @@ module _ (x : Key) (c : Call) (a : Answer) (v : Standing) where
 
 -- no two requests share a key
 pub one-of-key : (p : Port) (l : List Request) (x : Key) → Kept p l → (i j : ℕ) → i < 32 → j < 32 → HasKey (getD l i blank) x → HasKey (getD l j blank) x → i ≡ j
-one-of-key p l x kept i j m n a b = elim (decLt i j) [
-  | yes h ↦ absurd (kept .apart i j h n (a .0) (b .0) .keys (shared (getD l i blank) (getD l j blank) a b))
-  | no h ↦ elim (decLt j i) [ yes g ↦ absurd (kept .apart j i g m (b .0) (a .0) .keys (shared (getD l j blank) (getD l i blank) b a)) | no g ↦ omega arith ]
-]
+one-of-key p l x kept i j m n a b = by (same-or j i)
   where
-    shared : (r q : Request) → HasKey r x → HasKey q x → SameKey (r .head) (q .head)
-    shared r q c d = keyed-as (r .head) (q .head) x (c .1) (d .1)
+    by : (j ≡ i) ⊎ (j ≡ i → ⊥) → i ≡ j
+    by (inl same) = sym same
+    by (inr other) = absurd (beside p l kept i m (a .0) j n other (b .0) .keys (keyed-as (getD l i blank .head) (getD l j blank .head) x (a .1) (b .1)))
 
 -- a record that stays has a key exactly if it had it
 pub had : (x : Key) {a b : Request} → Stays a b → HasKey b x → HasKey a x

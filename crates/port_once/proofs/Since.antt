@@ -204,39 +204,22 @@ closing = record {
 abbrev Between : Word → Type 0
 Between w = ((isSubmitted w ≡ false) × (isLast w ≡ false)) × (isRefused w ≡ false)
 
-going : (w : Word) → isGoing w ≡ true → Between w
-going Taken e = absurd (never e)
-going Submitted e = absurd (never e)
-going Nothing e = absurd (never e)
-going Send e = ((refl, refl), refl)
-going Open e = ((refl, refl), refl)
-going Close e = absurd (never e)
-going StopArb e = absurd (never e)
-going Retried e = absurd (never e)
-going Waiting e = absurd (never e)
-going CancelAcknowledged e = absurd (never e)
-going (Ended why) e = absurd (never e)
-going NexusLoss e = absurd (never e)
-going ConnectionLost e = absurd (never e)
-going (Status byte) e = absurd (never e)
-going (Refused k) e = absurd (never e)
-
-close : (w : Word) → isClose w ≡ true → Between w
-close Taken e = absurd (never e)
-close Submitted e = absurd (never e)
-close Nothing e = absurd (never e)
-close Send e = absurd (never e)
-close Open e = absurd (never e)
-close Close e = ((refl, refl), refl)
-close StopArb e = absurd (never e)
-close Retried e = absurd (never e)
-close Waiting e = absurd (never e)
-close CancelAcknowledged e = absurd (never e)
-close (Ended why) e = absurd (never e)
-close NexusLoss e = absurd (never e)
-close ConnectionLost e = absurd (never e)
-close (Status byte) e = absurd (never e)
-close (Refused k) e = absurd (never e)
+between : (w : Word) → (isGoing w ≡ true → Between w) × (isClose w ≡ true → Between w)
+between Taken = (λ e. absurd (never e), λ e. absurd (never e))
+between Submitted = (λ e. absurd (never e), λ e. absurd (never e))
+between Nothing = (λ e. absurd (never e), λ e. absurd (never e))
+between Send = (λ e. ((refl, refl), refl), λ e. absurd (never e))
+between Open = (λ e. ((refl, refl), refl), λ e. absurd (never e))
+between Close = (λ e. absurd (never e), λ e. ((refl, refl), refl))
+between StopArb = (λ e. absurd (never e), λ e. absurd (never e))
+between Retried = (λ e. absurd (never e), λ e. absurd (never e))
+between Waiting = (λ e. absurd (never e), λ e. absurd (never e))
+between CancelAcknowledged = (λ e. absurd (never e), λ e. absurd (never e))
+between (Ended why) = (λ e. absurd (never e), λ e. absurd (never e))
+between NexusLoss = (λ e. absurd (never e), λ e. absurd (never e))
+between ConnectionLost = (λ e. absurd (never e), λ e. absurd (never e))
+between (Status byte) = (λ e. absurd (never e), λ e. absurd (never e))
+between (Refused k) = (λ e. absurd (never e), λ e. absurd (never e))
 
 module _ (r : Run) (c : Call) where
   abbrev s : State
@@ -270,7 +253,7 @@ module _ (r : Run) (c : Call) where
   -- once a Cancel was taken neither its frame nor an open for it goes
   pub withheld : isGoing (said .word) ≡ true → since cancels known (past r) ≡ false
   withheld e =
-      let is = going (said .word) e in
+      let is = between (said .word) .0 e in
       let plain = plain-by c s eight isGoing refl (λ k. refl) (is .1) e in
       let off = subst (λ (a : Answer). isGoing (a .word) ≡ true → (a .slot < 32) × (isCancelled (getD (s .list) (a .slot) blank) ≡ false)) (sym (same-answer c s eight (is .1))) (marks plain (is .1) .goes) e in
       let there = rests-else c s eight plain (is .0 .0) (is .0 .1) .named (off .0) in
@@ -280,7 +263,7 @@ module _ (r : Run) (c : Call) where
   pub closed-once : closes (record { call = c; answer = said }) ≡ true → since closes known (past r) ≡ false
   closed-once e =
       let word = and-right (isChoose c) (isClose (said .word)) e in
-      let is = close (said .word) word in
+      let is = between (said .word) .1 word in
       let plain = plain-by c s eight isClose refl (λ k. refl) (is .1) word in
       let off = subst (λ (a : Answer). isChoose c && isClose (a .word) ≡ true → (a .slot < 32) × (getD (s .list) (a .slot) blank .closed ≡ 0)) (sym (same-answer c s eight (is .1))) (marks plain (is .1) .once) e in
       let there = rests-else c s eight plain (is .0 .0) (is .0 .1) .named (off .0) in

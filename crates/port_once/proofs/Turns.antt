@@ -37,7 +37,7 @@ refused-nothing c s e = (
 )
 
 -- every call but setup checks the rules
-pub rules-checked : (c : Call) (s : State) → isSetup c ≡ false → NoneGiven (behind (causesOf c s)) → rules (s .port) (s .list) ≡ true
+rules-checked : (c : Call) (s : State) → isSetup c ≡ false → NoneGiven (behind (causesOf c s)) → rules (s .port) (s .list) ≡ true
 unfolding causesOf
 rules-checked (setup count loss) s e pass = absurd (never (sym e))
 rules-checked (submit x) s e pass = not-false (rules (s .port) (s .list)) (pass .1 .0)
@@ -51,7 +51,7 @@ rules-checked (enable x) s e pass = not-false (rules (s .port) (s .list)) (pass 
 rules-checked (disable x) s e pass = not-false (rules (s .port) (s .list)) (pass .0)
 
 -- so such a call is taken only of a lawful state
-pub lawful-of : (c : Call) (s : State) → length (s .list) ≡ 32 → length (s .port .phys) ≡ 8 → isSetup c ≡ false → isRefused (doneOf c s .answer .word) ≡ false → Lawful s
+lawful-of : (c : Call) (s : State) → length (s .list) ≡ 32 → length (s .port .phys) ≡ 8 → isSetup c ≡ false → isRefused (doneOf c s .answer .word) ≡ false → Lawful s
 lawful-of c s long eight plain on =
     record { list = long; sound = record { eight = eight; kept = rules-say (s .port) (s .list) .0 (by-taken c s (λ _. rules (s .port) (s .list) ≡ true) (rules-checked c s plain) on) } }
 
