@@ -5,8 +5,8 @@
 
 /* Document 01, 'Port', as a board's firmware would have it: a test leaves at the first rule that is broken. */
 
-enum { LENGTH = 32, PHYS = 8, SSP = 1 };
-enum { FREE, WAITING, IN_PROGRESS };
+enum { LENGTH = 32, SSP = 1 };
+enum { FREE, WAITS, IN_PROGRESS };
 enum { DISABLED, UNCONNECTED, OPENING, IDLE, FRAME_OUT, CLOSING, CLOSING_FRAME_OUT };
 enum { WRONG_LENGTH = 1, UNLISTED, RULES, PAST = 5, PRESENT = 9, FULL };
 
@@ -167,7 +167,7 @@ void plain_submit(struct request *list, size_t length, struct port *port, const 
 	struct request *r = &list[slot];
 	struct stamp timer = loss ? *loss : (struct stamp){0, 0};
 	memset(r, 0, sizeof *r);
-	r->stage = WAITING;
+	r->stage = WAITS;
 	r->head = wish->head;
 	r->submitted = wish->now;
 	r->loss = timer;
@@ -177,7 +177,7 @@ void plain_submit(struct request *list, size_t length, struct port *port, const 
 
 static bool ready(const struct request *r, uint64_t now)
 {
-	return r->stage == WAITING && (!r->retry.set || (now >= r->retry.at && now - r->retry.at >= 15));
+	return r->stage == WAITS && (!r->retry.set || (now >= r->retry.at && now - r->retry.at >= 15));
 }
 
 /* What can be done for a request, by the phy of the lowest number: 0 nothing. */

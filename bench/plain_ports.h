@@ -4,9 +4,6 @@
 
 #include "../tests/ports.h"
 
-/* The words of an answer that these calls give, as numbers of struct reply. */
-enum word { SUBMITTED = 1, NOTHING, SEND, OPEN, CLOSE, REFUSED = 14 };
-
 struct answer {
 	uint8_t word, detail, slot, phy;
 	struct open_frame frame;

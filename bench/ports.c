@@ -12,7 +12,7 @@
 
 #include <string.h>
 
-enum { CALLS = 200, LENGTH = 32, PHYS = 8, DESTINATIONS = 8 };
+enum { CALLS = 200, LENGTH = 32, DESTINATIONS = 8 };
 enum { NOTHING_QUALIFIES, LAST_QUALIFIES, ONE_FREE, FULL_LIST };
 
 static struct request lists[SIDES][LENGTH];

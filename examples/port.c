@@ -12,26 +12,10 @@
 #include <stdio.h>
 #include <stdlib.h>
 
-enum { SLOTS = 32, NO_SLOT = 32, NO_PHY = 8, NEVER = 65535 };
 enum { SMP, SSP, STP };
 
-/* The answers that are told with more than their word. */
-enum { OPEN = 4, ENDED = 10, STATUS = 13, REFUSED = 14 };
-
-/* Why an open failed; the last is not in document 01. */
-enum {
-	NO_DESTINATION,
-	BAD_DESTINATION,
-	WRONG_DESTINATION,
-	LINK_RATE,
-	PROTOCOL,
-	PATHWAY_BLOCKED,
-	STP_BUSY,
-	RETRY,
-	OPEN_TIME_OUT,
-	BREAK_RECEIVED,
-	PORT_LAYER_REQUEST
-};
+/* Not in document 01. */
+enum { PORT_LAYER_REQUEST = REASONS };
 
 static const char *const words[] = {
 	"Taken", "Submitted", "Nothing", "Send", "Open", "Close", "Stop Arb", "Retried", "Waits again", "Cancel Acknowledged", "Ended",

@@ -10,41 +10,6 @@
 
 #include <stdbool.h>
 
-enum { SLOTS = 32, PHYS = 8, NO_SLOT = 32, NO_PHY = 8, NEVER = 65535 };
-
-enum word {
-	TAKEN,
-	SUBMITTED,
-	NOTHING,
-	SEND,
-	OPEN,
-	CLOSE,
-	STOP_ARB,
-	RETRIED,
-	WAITING,
-	CANCEL_ACKNOWLEDGED, /* from here on, the last word on a request */
-	ENDED,
-	NEXUS_LOSS,
-	CONNECTION_LOST,
-	STATUS,
-	REFUSED,
-	WORDS
-};
-
-enum reason {
-	NO_DESTINATION,
-	BAD_DESTINATION,
-	WRONG_DESTINATION,
-	LINK_RATE,
-	PROTOCOL,
-	PATHWAY_BLOCKED,
-	STP_BUSY,
-	RETRY,
-	OPEN_TIME_OUT,
-	BREAK_RECEIVED,
-	REASONS
-};
-
 enum call { SETUP, SUBMIT, CANCEL, CHOOSE, OPENED, OPEN_FAILED, FRAME_STATUS, CLOSED, ENABLE, DISABLE, CALLS };
 
 /* One call of the ten; only its own members count. */

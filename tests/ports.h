@@ -9,6 +9,44 @@
 #include <stddef.h>
 #include <stdint.h>
 
+/* The list; what names no slot and no phy; the loss time that never comes. */
+enum { SLOTS = 32, PHYS = 8, NO_SLOT = 32, NO_PHY = 8, NEVER = 65535 };
+
+/* What a call answers. */
+enum word {
+	TAKEN,
+	SUBMITTED,
+	NOTHING,
+	SEND,
+	OPEN,
+	CLOSE,
+	STOP_ARB,
+	RETRIED,
+	WAITING,
+	CANCEL_ACKNOWLEDGED, /* from here on, the last word on a request */
+	ENDED,
+	NEXUS_LOSS,
+	CONNECTION_LOST,
+	STATUS,
+	REFUSED,
+	WORDS
+};
+
+/* Why an open failed. */
+enum reason {
+	NO_DESTINATION,
+	BAD_DESTINATION,
+	WRONG_DESTINATION,
+	LINK_RATE,
+	PROTOCOL,
+	PATHWAY_BLOCKED,
+	STP_BUSY,
+	RETRY,
+	OPEN_TIME_OUT,
+	BREAK_RECEIVED,
+	REASONS
+};
+
 /* What an OPEN says of its request. */
 struct head {
 	uint8_t initiator, protocol, features, rate;
@@ -59,11 +97,7 @@ struct port {
 };
 
 struct reply {
-	/*
-	 * 0 Taken, 1 Submitted, 2 Nothing, 3 Send, 4 Open, 5 Close, 6 StopArb, 7 Retried, 8 Waiting, 9 CancelAcknowledged, 10 Ended,
-	 * 11 NexusLoss, 12 ConnectionLost, 13 Status, 14 Refused
-	 */
-	uint8_t word;
+	uint8_t word;            /* enum word */
 	uint8_t detail;          /* Ended: the reason's number; Status: the byte; Refused: the refusal's number; else 0 */
 	uint8_t slot, phy;       /* 32 and 8 if none is named */
 	struct open_frame frame; /* the head of the request that is named; pbc and awt are Open's alone; else zeros */
@@ -97,11 +131,7 @@ struct confirmed {
 
 struct failure {
 	uint8_t phy;
-	/*
-	 * 0 No Destination, 1 Bad Destination, 2 Wrong Destination, 3 Link Rate Not Supported, 4 Protocol Not Supported,
-	 * 5 Pathway Blocked, 6 STP Resources Busy, 7 Retry, 8 Open Time Out, 9 Break Received
-	 */
-	uint8_t why;
+	uint8_t why; /* enum reason */
 	uint64_t now;
 };
 
