@@ -16,3 +16,4 @@ pub mod Steps
 pub mod Text
 pub mod Total
 pub mod Unique
+mod Walked

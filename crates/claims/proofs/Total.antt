@@ -2,6 +2,7 @@
 -- source, and holds of all of them. Assumes nothing.
 use Prim.Native.Nat.{ℕ}
 use mathlib.Core.List.{List}
+use mathlib.Core.Path.{refl}
 use borrow.Fn.Kinds as kinds
 use contract.Lifetimes
 use Rattle.refusals.proofs.number.Kinds as number-of
@@ -192,6 +193,16 @@ use Rattle.port_core.proofs.enable_core.Kinds as port-enable-core-of
 use Rattle.port_core.proofs.enable_core.Reads as port-enable-core
 use Rattle.port_core.proofs.disable_core.Kinds as port-disable-core-of
 use Rattle.port_core.proofs.disable_core.Reads as port-disable-core
+use Rattle.port.proofs.setup as call-setup
+use Rattle.port.proofs.submit as call-submit
+use Rattle.port.proofs.cancel as call-cancel
+use Rattle.port.proofs.choose as call-choose
+use Rattle.port.proofs.opened as call-opened
+use Rattle.port.proofs.open_failed as call-open-failed
+use Rattle.port.proofs.frame_status as call-frame-status
+use Rattle.port.proofs.closed as call-closed
+use Rattle.port.proofs.enable as call-enable
+use Rattle.port.proofs.disable as call-disable
 use Rattle.sonerwal.proofs.sas_open_read.Kinds as sas-open-read-of
 use Rattle.sonerwal.proofs.sas_open_read.Reads as sas-open-read
 use Rattle.sonerwal.proofs.sas_open_write.Kinds as sas-open-write-of
@@ -210,12 +221,23 @@ use Rattle.bench_steps.proofs.bench_next.Kinds as bench-next-of
 use Rattle.bench_steps.proofs.bench_next.Reads as bench-next
 use Rattle.bench_links.proofs.bench_links.Kinds as bench-links-of
 use Rattle.bench_links.proofs.bench_links.Reads as bench-links
+use Rattle.bench_ports.proofs.port_setup as port-setup
+use Rattle.bench_ports.proofs.port_submit as port-submit
+use Rattle.bench_ports.proofs.port_cancel as port-cancel
+use Rattle.bench_ports.proofs.port_choose as port-choose
+use Rattle.bench_ports.proofs.port_opened as port-opened
+use Rattle.bench_ports.proofs.port_open_failed as port-open-failed
+use Rattle.bench_ports.proofs.port_frame_status as port-frame-status
+use Rattle.bench_ports.proofs.port_closed as port-closed
+use Rattle.bench_ports.proofs.port_enable as port-enable
+use Rattle.bench_ports.proofs.port_disable as port-disable
+use Rattle.claims.proofs.Walked.{AsksNothing}
 
 -- a function of n lifetimes and parameters ps that asks pre of them takes anything
 abbrev Anything : (n : ℕ) (ps : List (kinds.PK n)) → kinds.In n ps → Type 0
 Anything n ps pre = (κs : Lifetimes.Lfts n) (a : kinds.Dens κs ps) → pre κs a
 
-pub record Total : Type 0 where
+pub record Total : Type 2 where
   pub number : Anything 0 number-of.ps number.Pre
   pub answer : Anything 0 answer-of.ps answer.Pre
   pub get-be : Anything 1 get-be-of.ps get-be.Pre
@@ -310,6 +332,16 @@ pub record Total : Type 0 where
   pub port-closed-core : Anything 0 port-closed-core-of.ps port-closed-core.Pre
   pub port-enable-core : Anything 0 port-enable-core-of.ps port-enable-core.Pre
   pub port-disable-core : Anything 0 port-disable-core-of.ps port-disable-core.Pre
+  pub call-setup : AsksNothing call-setup.ended (λ M. call-setup.spec)
+  pub call-submit : AsksNothing call-submit.ended (λ M. call-submit.spec)
+  pub call-cancel : AsksNothing call-cancel.ended (λ M. call-cancel.spec)
+  pub call-choose : AsksNothing call-choose.ended (λ M. call-choose.spec)
+  pub call-opened : AsksNothing call-opened.ended (λ M. call-opened.spec)
+  pub call-open-failed : AsksNothing call-open-failed.ended (λ M. call-open-failed.spec)
+  pub call-frame-status : AsksNothing call-frame-status.ended (λ M. call-frame-status.spec)
+  pub call-closed : AsksNothing call-closed.ended (λ M. call-closed.spec)
+  pub call-enable : AsksNothing call-enable.ended (λ M. call-enable.spec)
+  pub call-disable : AsksNothing call-disable.ended (λ M. call-disable.spec)
   pub sas-open-read : Anything 10 sas-open-read-of.ps sas-open-read.Pre
   pub sas-open-write : Anything 1 sas-open-write-of.ps sas-open-write.Pre
   pub sas-data-read : Anything 7 sas-data-read-of.ps sas-data-read.Pre
@@ -319,6 +351,16 @@ pub record Total : Type 0 where
   pub bench-turns : Anything 0 bench-turns-of.ps bench-turns.Pre
   pub bench-next : Anything 2 bench-next-of.ps bench-next.Pre
   pub bench-links : Anything 1 bench-links-of.ps bench-links.Pre
+  pub port-setup : AsksNothing port-setup.ended (λ M. port-setup.spec)
+  pub port-submit : AsksNothing port-submit.ended (λ M. port-submit.spec)
+  pub port-cancel : AsksNothing port-cancel.ended (λ M. port-cancel.spec)
+  pub port-choose : AsksNothing port-choose.ended (λ M. port-choose.spec)
+  pub port-opened : AsksNothing port-opened.ended (λ M. port-opened.spec)
+  pub port-open-failed : AsksNothing port-open-failed.ended (λ M. port-open-failed.spec)
+  pub port-frame-status : AsksNothing port-frame-status.ended (λ M. port-frame-status.spec)
+  pub port-closed : AsksNothing port-closed.ended (λ M. port-closed.spec)
+  pub port-enable : AsksNothing port-enable.ended (λ M. port-enable.spec)
+  pub port-disable : AsksNothing port-disable.ended (λ M. port-disable.spec)
 
 pub total : Total
 total = record {
@@ -416,6 +458,16 @@ total = record {
   port-closed-core = λ κs a. tt;
   port-enable-core = λ κs a. tt;
   port-disable-core = λ κs a. tt;
+  call-setup = λ w κs a. (tt, refl);
+  call-submit = λ w κs a. (tt, refl);
+  call-cancel = λ w κs a. (tt, refl);
+  call-choose = λ w κs a. (tt, refl);
+  call-opened = λ w κs a. (tt, refl);
+  call-open-failed = λ w κs a. (tt, refl);
+  call-frame-status = λ w κs a. (tt, refl);
+  call-closed = λ w κs a. (tt, refl);
+  call-enable = λ w κs a. (tt, refl);
+  call-disable = λ w κs a. (tt, refl);
   sas-open-read = λ κs a. tt;
   sas-open-write = λ κs a. tt;
   sas-data-read = λ κs a. tt;
@@ -425,4 +477,14 @@ total = record {
   bench-turns = λ κs a. tt;
   bench-next = λ κs a. tt;
   bench-links = λ κs a. tt;
+  port-setup = λ w κs a. (tt, refl);
+  port-submit = λ w κs a. (tt, refl);
+  port-cancel = λ w κs a. (tt, refl);
+  port-choose = λ w κs a. (tt, refl);
+  port-opened = λ w κs a. (tt, refl);
+  port-open-failed = λ w κs a. (tt, refl);
+  port-frame-status = λ w κs a. (tt, refl);
+  port-closed = λ w κs a. (tt, refl);
+  port-enable = λ w κs a. (tt, refl);
+  port-disable = λ w κs a. (tt, refl);
 }

@@ -199,17 +199,17 @@ use Rattle.port_core.proofs.enable_core.Kinds as port-enable-core-of
 use Rattle.port_core.proofs.enable_core.Reads as port-enable-core
 use Rattle.port_core.proofs.disable_core.Kinds as port-disable-core-of
 use Rattle.port_core.proofs.disable_core.Reads as port-disable-core
-use Rattle.port_parts.specs.declared.Port.{Port}
-use Rattle.port_parts.specs.declared.Request.{Request}
-use Rattle.port_core.specs.declared.Wish.{Wish}
-use Rattle.port_core.specs.declared.Withdrawn.{Withdrawn}
-use Rattle.port_core.specs.declared.Confirmed.{Confirmed}
-use Rattle.port_core.specs.declared.Failure.{Failure}
-use Rattle.port_core.specs.declared.Report.{Report}
-use Rattle.port_core.specs.declared.Done.{Done}
-use Rattle.port.specs.declared.Moment.{Moment}
-use Rattle.port.specs.declared.Stepped.{Stepped}
 use Rattle.port.specs.Calls.{short, shortSetup, Called, setupCall, submitCall, cancelCall, chooseCall, openedCall, openFailedCall, frameStatusCall, closedCall, enableCall, disableCall}
+use Rattle.port.proofs.setup as call-setup
+use Rattle.port.proofs.submit as call-submit
+use Rattle.port.proofs.cancel as call-cancel
+use Rattle.port.proofs.choose as call-choose
+use Rattle.port.proofs.opened as call-opened
+use Rattle.port.proofs.open_failed as call-open-failed
+use Rattle.port.proofs.frame_status as call-frame-status
+use Rattle.port.proofs.closed as call-closed
+use Rattle.port.proofs.enable as call-enable
+use Rattle.port.proofs.disable as call-disable
 use Rattle.sonerwal.proofs.sas_open_read.Kinds as sas-open-read-of
 use Rattle.sonerwal.proofs.sas_open_read.Reads as sas-open-read
 use Rattle.sonerwal.proofs.sas_open_write.Kinds as sas-open-write-of
@@ -228,7 +228,17 @@ use Rattle.bench_steps.proofs.bench_next.Kinds as bench-next-of
 use Rattle.bench_steps.proofs.bench_next.Reads as bench-next
 use Rattle.bench_links.proofs.bench_links.Kinds as bench-links-of
 use Rattle.bench_links.proofs.bench_links.Reads as bench-links
-use Rattle.bench_ports.specs.declared.Reply.{Reply}
+use Rattle.bench_ports.proofs.port_setup as port-setup
+use Rattle.bench_ports.proofs.port_submit as port-submit
+use Rattle.bench_ports.proofs.port_cancel as port-cancel
+use Rattle.bench_ports.proofs.port_choose as port-choose
+use Rattle.bench_ports.proofs.port_opened as port-opened
+use Rattle.bench_ports.proofs.port_open_failed as port-open-failed
+use Rattle.bench_ports.proofs.port_frame_status as port-frame-status
+use Rattle.bench_ports.proofs.port_closed as port-closed
+use Rattle.bench_ports.proofs.port_enable as port-enable
+use Rattle.bench_ports.proofs.port_disable as port-disable
+use Rattle.claims.proofs.Walked.{OneEnd}
 use Rattle.bench_ports.specs.Face.{Told}
 
 -- a function of n lifetimes, parameters ps and result r has one outcome: its answer, and what `left` reads of the lent at exit
@@ -284,18 +294,10 @@ sas-data-write-left κs s = now (s .1 .1 .1 .1 .1 .1 .0)
 abbrev bench-next-left : (κs : Lifetimes.Lfts 2) → Clauses.AtExit (kinds.endedOf 2 bench-next-of.ps bench-next-of.r) κs → List ℕ
 bench-next-left κs s = now (s .1 .1 .1 .1 .1 .1 .1 .1 .1 .0)
 
--- a call of the port over a lent list leaves one answer, one port and one list: its promise is literally this record
-abbrev OneCall : (List Request → Done) → Stepped → Type 0
-OneCall does none = (l : List Request) (r r' : Stepped) (after after' : List Request) → Called l (does l) none r after → Called l (does l) none r' after' → (r ≡ r') × (after ≡ after')
-
--- the same of what C sees of such a call
-abbrev OneReply : (List Request → Done) → Stepped → Type 0
-OneReply does none = (l : List Request) (r r' : Reply) (after after' : List Request) → Told l (does l) none r after → Told l (does l) none r' after' → (r ≡ r') × (after ≡ after')
-
 -- 01 PROMISE.1: Each public function's promise determines its answer, new state and each lent byte, on refusals too.
 -- 01 PROMISE.2: Prove that it admits no second answer; list exceptions in docs/ and why.
 -- 01 READ.4
-pub record Unique : Type 0 where
+pub record Unique : Type 2 where
   pub number : One 0 number-of.ps number-of.r (none 0 number-of.ps number-of.r) number.Post
   pub answer : One 0 answer-of.ps answer-of.r (none 0 answer-of.ps answer-of.r) answer.Post
   pub get-be : One 1 get-be-of.ps get-be-of.r (none 1 get-be-of.ps get-be-of.r) get-be.Post
@@ -390,16 +392,16 @@ pub record Unique : Type 0 where
   pub port-closed-core : One 0 port-closed-core-of.ps port-closed-core-of.r (none 0 port-closed-core-of.ps port-closed-core-of.r) port-closed-core.Post
   pub port-enable-core : One 0 port-enable-core-of.ps port-enable-core-of.r (none 0 port-enable-core-of.ps port-enable-core-of.r) port-enable-core.Post
   pub port-disable-core : One 0 port-disable-core-of.ps port-disable-core-of.r (none 0 port-disable-core-of.ps port-disable-core-of.r) port-disable-core.Post
-  pub call-setup : (count loss : ℕ) → OneCall (λ l. setupCall l count loss) (shortSetup count)
-  pub call-submit : (p : Port) (x : Wish) → OneCall (λ l. submitCall l p x) (short p)
-  pub call-cancel : (p : Port) (x : Withdrawn) → OneCall (λ l. cancelCall l p x) (short p)
-  pub call-choose : (p : Port) (x : Moment) → OneCall (λ l. chooseCall l p x) (short p)
-  pub call-opened : (p : Port) (x : Confirmed) → OneCall (λ l. openedCall l p x) (short p)
-  pub call-open-failed : (p : Port) (x : Failure) → OneCall (λ l. openFailedCall l p x) (short p)
-  pub call-frame-status : (p : Port) (x : Report) → OneCall (λ l. frameStatusCall l p x) (short p)
-  pub call-closed : (p : Port) (x : Confirmed) → OneCall (λ l. closedCall l p x) (short p)
-  pub call-enable : (p : Port) (x : Confirmed) → OneCall (λ l. enableCall l p x) (short p)
-  pub call-disable : (p : Port) (x : Confirmed) → OneCall (λ l. disableCall l p x) (short p)
+  pub call-setup : OneEnd call-setup.ended (λ M. call-setup.spec) (λ κs e. now (e .0))
+  pub call-submit : OneEnd call-submit.ended (λ M. call-submit.spec) (λ κs e. now (e .0))
+  pub call-cancel : OneEnd call-cancel.ended (λ M. call-cancel.spec) (λ κs e. now (e .0))
+  pub call-choose : OneEnd call-choose.ended (λ M. call-choose.spec) (λ κs e. now (e .0))
+  pub call-opened : OneEnd call-opened.ended (λ M. call-opened.spec) (λ κs e. now (e .0))
+  pub call-open-failed : OneEnd call-open-failed.ended (λ M. call-open-failed.spec) (λ κs e. now (e .0))
+  pub call-frame-status : OneEnd call-frame-status.ended (λ M. call-frame-status.spec) (λ κs e. now (e .0))
+  pub call-closed : OneEnd call-closed.ended (λ M. call-closed.spec) (λ κs e. now (e .0))
+  pub call-enable : OneEnd call-enable.ended (λ M. call-enable.spec) (λ κs e. now (e .0))
+  pub call-disable : OneEnd call-disable.ended (λ M. call-disable.spec) (λ κs e. now (e .0))
   pub sas-open-read : One 10 sas-open-read-of.ps sas-open-read-of.r sas-open-read-left sas-open-read.Post
   pub sas-open-write : One 1 sas-open-write-of.ps sas-open-write-of.r sas-open-write-left sas-open-write.Post
   pub sas-data-read : One 7 sas-data-read-of.ps sas-data-read-of.r sas-data-read-left sas-data-read.Post
@@ -409,16 +411,16 @@ pub record Unique : Type 0 where
   pub bench-turns : One 0 bench-turns-of.ps bench-turns-of.r (none 0 bench-turns-of.ps bench-turns-of.r) bench-turns.Post
   pub bench-next : One 2 bench-next-of.ps bench-next-of.r bench-next-left bench-next.Post
   pub bench-links : One 1 bench-links-of.ps bench-links-of.r (none 1 bench-links-of.ps bench-links-of.r) bench-links.Post
-  pub port-setup : (count loss : ℕ) → OneReply (λ l. setupCall l count loss) (shortSetup count)
-  pub port-submit : (p : Port) (x : Wish) → OneReply (λ l. submitCall l p x) (short p)
-  pub port-cancel : (p : Port) (x : Withdrawn) → OneReply (λ l. cancelCall l p x) (short p)
-  pub port-choose : (p : Port) (x : Moment) → OneReply (λ l. chooseCall l p x) (short p)
-  pub port-opened : (p : Port) (x : Confirmed) → OneReply (λ l. openedCall l p x) (short p)
-  pub port-open-failed : (p : Port) (x : Failure) → OneReply (λ l. openFailedCall l p x) (short p)
-  pub port-frame-status : (p : Port) (x : Report) → OneReply (λ l. frameStatusCall l p x) (short p)
-  pub port-closed : (p : Port) (x : Confirmed) → OneReply (λ l. closedCall l p x) (short p)
-  pub port-enable : (p : Port) (x : Confirmed) → OneReply (λ l. enableCall l p x) (short p)
-  pub port-disable : (p : Port) (x : Confirmed) → OneReply (λ l. disableCall l p x) (short p)
+  pub port-setup : OneEnd port-setup.ended (λ M. port-setup.spec) (λ κs e. now (e .0))
+  pub port-submit : OneEnd port-submit.ended (λ M. port-submit.spec) (λ κs e. now (e .0))
+  pub port-cancel : OneEnd port-cancel.ended (λ M. port-cancel.spec) (λ κs e. now (e .0))
+  pub port-choose : OneEnd port-choose.ended (λ M. port-choose.spec) (λ κs e. now (e .0))
+  pub port-opened : OneEnd port-opened.ended (λ M. port-opened.spec) (λ κs e. now (e .0))
+  pub port-open-failed : OneEnd port-open-failed.ended (λ M. port-open-failed.spec) (λ κs e. now (e .0))
+  pub port-frame-status : OneEnd port-frame-status.ended (λ M. port-frame-status.spec) (λ κs e. now (e .0))
+  pub port-closed : OneEnd port-closed.ended (λ M. port-closed.spec) (λ κs e. now (e .0))
+  pub port-enable : OneEnd port-enable.ended (λ M. port-enable.spec) (λ κs e. now (e .0))
+  pub port-disable : OneEnd port-disable.ended (λ M. port-disable.spec) (λ κs e. now (e .0))
 
 pub unique : Unique
 unique = record {
@@ -516,16 +518,16 @@ unique = record {
   port-closed-core = λ κs a x y s t p q. (p ∙ sym q, refl);
   port-enable-core = λ κs a x y s t p q. (p ∙ sym q, refl);
   port-disable-core = λ κs a x y s t p q. (p ∙ sym q, refl);
-  call-setup = λ count loss l r r' after after' c d. (c .0 ∙ sym (d .0), c .1 ∙ sym (d .1));
-  call-submit = λ p x l r r' after after' c d. (c .0 ∙ sym (d .0), c .1 ∙ sym (d .1));
-  call-cancel = λ p x l r r' after after' c d. (c .0 ∙ sym (d .0), c .1 ∙ sym (d .1));
-  call-choose = λ p x l r r' after after' c d. (c .0 ∙ sym (d .0), c .1 ∙ sym (d .1));
-  call-opened = λ p x l r r' after after' c d. (c .0 ∙ sym (d .0), c .1 ∙ sym (d .1));
-  call-open-failed = λ p x l r r' after after' c d. (c .0 ∙ sym (d .0), c .1 ∙ sym (d .1));
-  call-frame-status = λ p x l r r' after after' c d. (c .0 ∙ sym (d .0), c .1 ∙ sym (d .1));
-  call-closed = λ p x l r r' after after' c d. (c .0 ∙ sym (d .0), c .1 ∙ sym (d .1));
-  call-enable = λ p x l r r' after after' c d. (c .0 ∙ sym (d .0), c .1 ∙ sym (d .1));
-  call-disable = λ p x l r r' after after' c d. (c .0 ∙ sym (d .0), c .1 ∙ sym (d .1));
+  call-setup = λ w κs a g. ((λ r e. Called (now (a .0)) (setupCall (now (a .0)) (a .1 .0) (a .1 .1 .0)) (shortSetup (a .1 .0)) r (now (e .0))), (λ r. refl), λ x y s t p q. (p .0 ∙ sym (q .0), p .1 ∙ sym (q .1)));
+  call-submit = λ w κs a g. ((λ r e. Called (now (a .0)) (submitCall (now (a .0)) (a .1 .0) (a .1 .1 .0)) (short (a .1 .0)) r (now (e .0))), (λ r. refl), λ x y s t p q. (p .0 ∙ sym (q .0), p .1 ∙ sym (q .1)));
+  call-cancel = λ w κs a g. ((λ r e. Called (now (a .0)) (cancelCall (now (a .0)) (a .1 .0) (a .1 .1 .0)) (short (a .1 .0)) r (now (e .0))), (λ r. refl), λ x y s t p q. (p .0 ∙ sym (q .0), p .1 ∙ sym (q .1)));
+  call-choose = λ w κs a g. ((λ r e. Called (now (a .0)) (chooseCall (now (a .0)) (a .1 .0) (a .1 .1 .0)) (short (a .1 .0)) r (now (e .0))), (λ r. refl), λ x y s t p q. (p .0 ∙ sym (q .0), p .1 ∙ sym (q .1)));
+  call-opened = λ w κs a g. ((λ r e. Called (now (a .0)) (openedCall (now (a .0)) (a .1 .0) (a .1 .1 .0)) (short (a .1 .0)) r (now (e .0))), (λ r. refl), λ x y s t p q. (p .0 ∙ sym (q .0), p .1 ∙ sym (q .1)));
+  call-open-failed = λ w κs a g. ((λ r e. Called (now (a .0)) (openFailedCall (now (a .0)) (a .1 .0) (a .1 .1 .0)) (short (a .1 .0)) r (now (e .0))), (λ r. refl), λ x y s t p q. (p .0 ∙ sym (q .0), p .1 ∙ sym (q .1)));
+  call-frame-status = λ w κs a g. ((λ r e. Called (now (a .0)) (frameStatusCall (now (a .0)) (a .1 .0) (a .1 .1 .0)) (short (a .1 .0)) r (now (e .0))), (λ r. refl), λ x y s t p q. (p .0 ∙ sym (q .0), p .1 ∙ sym (q .1)));
+  call-closed = λ w κs a g. ((λ r e. Called (now (a .0)) (closedCall (now (a .0)) (a .1 .0) (a .1 .1 .0)) (short (a .1 .0)) r (now (e .0))), (λ r. refl), λ x y s t p q. (p .0 ∙ sym (q .0), p .1 ∙ sym (q .1)));
+  call-enable = λ w κs a g. ((λ r e. Called (now (a .0)) (enableCall (now (a .0)) (a .1 .0) (a .1 .1 .0)) (short (a .1 .0)) r (now (e .0))), (λ r. refl), λ x y s t p q. (p .0 ∙ sym (q .0), p .1 ∙ sym (q .1)));
+  call-disable = λ w κs a g. ((λ r e. Called (now (a .0)) (disableCall (now (a .0)) (a .1 .0) (a .1 .1 .0)) (short (a .1 .0)) r (now (e .0))), (λ r. refl), λ x y s t p q. (p .0 ∙ sym (q .0), p .1 ∙ sym (q .1)));
   sas-open-read = λ κs a x y s t p q. (p .answer ∙ sym (q .answer), p .lent ∙ sym (q .lent));
   sas-open-write = λ κs a x y s t p q. (p .answer ∙ sym (q .answer), p .lent ∙ sym (q .lent));
   sas-data-read = λ κs a x y s t p q. (p .answer ∙ sym (q .answer), p .lent ∙ sym (q .lent));
@@ -535,14 +537,14 @@ unique = record {
   bench-turns = λ κs a x y s t p q. (p ∙ sym q, refl);
   bench-next = λ κs a x y s t p q. (p .answer ∙ sym (q .answer), p .bytes ∙ sym (q .bytes));
   bench-links = λ κs a x y s t p q. (p ∙ sym q, refl);
-  port-setup = λ count loss l r r' after after' c d. (c .0 ∙ sym (d .0), c .1 ∙ sym (d .1));
-  port-submit = λ p x l r r' after after' c d. (c .0 ∙ sym (d .0), c .1 ∙ sym (d .1));
-  port-cancel = λ p x l r r' after after' c d. (c .0 ∙ sym (d .0), c .1 ∙ sym (d .1));
-  port-choose = λ p x l r r' after after' c d. (c .0 ∙ sym (d .0), c .1 ∙ sym (d .1));
-  port-opened = λ p x l r r' after after' c d. (c .0 ∙ sym (d .0), c .1 ∙ sym (d .1));
-  port-open-failed = λ p x l r r' after after' c d. (c .0 ∙ sym (d .0), c .1 ∙ sym (d .1));
-  port-frame-status = λ p x l r r' after after' c d. (c .0 ∙ sym (d .0), c .1 ∙ sym (d .1));
-  port-closed = λ p x l r r' after after' c d. (c .0 ∙ sym (d .0), c .1 ∙ sym (d .1));
-  port-enable = λ p x l r r' after after' c d. (c .0 ∙ sym (d .0), c .1 ∙ sym (d .1));
-  port-disable = λ p x l r r' after after' c d. (c .0 ∙ sym (d .0), c .1 ∙ sym (d .1));
+  port-setup = λ w κs a g. ((λ r e. Told (now (a .0)) (setupCall (now (a .0)) (a .1 .0) (a .1 .1 .0)) (shortSetup (a .1 .0)) r (now (e .0))), (λ r. refl), λ x y s t p q. (p .0 ∙ sym (q .0), p .1 ∙ sym (q .1)));
+  port-submit = λ w κs a g. ((λ r e. Told (now (a .0)) (submitCall (now (a .0)) (a .1 .0) (a .1 .1 .0)) (short (a .1 .0)) r (now (e .0))), (λ r. refl), λ x y s t p q. (p .0 ∙ sym (q .0), p .1 ∙ sym (q .1)));
+  port-cancel = λ w κs a g. ((λ r e. Told (now (a .0)) (cancelCall (now (a .0)) (a .1 .0) (a .1 .1 .0)) (short (a .1 .0)) r (now (e .0))), (λ r. refl), λ x y s t p q. (p .0 ∙ sym (q .0), p .1 ∙ sym (q .1)));
+  port-choose = λ w κs a g. ((λ r e. Told (now (a .0)) (chooseCall (now (a .0)) (a .1 .0) (a .1 .1 .0)) (short (a .1 .0)) r (now (e .0))), (λ r. refl), λ x y s t p q. (p .0 ∙ sym (q .0), p .1 ∙ sym (q .1)));
+  port-opened = λ w κs a g. ((λ r e. Told (now (a .0)) (openedCall (now (a .0)) (a .1 .0) (a .1 .1 .0)) (short (a .1 .0)) r (now (e .0))), (λ r. refl), λ x y s t p q. (p .0 ∙ sym (q .0), p .1 ∙ sym (q .1)));
+  port-open-failed = λ w κs a g. ((λ r e. Told (now (a .0)) (openFailedCall (now (a .0)) (a .1 .0) (a .1 .1 .0)) (short (a .1 .0)) r (now (e .0))), (λ r. refl), λ x y s t p q. (p .0 ∙ sym (q .0), p .1 ∙ sym (q .1)));
+  port-frame-status = λ w κs a g. ((λ r e. Told (now (a .0)) (frameStatusCall (now (a .0)) (a .1 .0) (a .1 .1 .0)) (short (a .1 .0)) r (now (e .0))), (λ r. refl), λ x y s t p q. (p .0 ∙ sym (q .0), p .1 ∙ sym (q .1)));
+  port-closed = λ w κs a g. ((λ r e. Told (now (a .0)) (closedCall (now (a .0)) (a .1 .0) (a .1 .1 .0)) (short (a .1 .0)) r (now (e .0))), (λ r. refl), λ x y s t p q. (p .0 ∙ sym (q .0), p .1 ∙ sym (q .1)));
+  port-enable = λ w κs a g. ((λ r e. Told (now (a .0)) (enableCall (now (a .0)) (a .1 .0) (a .1 .1 .0)) (short (a .1 .0)) r (now (e .0))), (λ r. refl), λ x y s t p q. (p .0 ∙ sym (q .0), p .1 ∙ sym (q .1)));
+  port-disable = λ w κs a g. ((λ r e. Told (now (a .0)) (disableCall (now (a .0)) (a .1 .0) (a .1 .1 .0)) (short (a .1 .0)) r (now (e .0))), (λ r. refl), λ x y s t p q. (p .0 ∙ sym (q .0), p .1 ∙ sym (q .1)));
 }
