@@ -70,45 +70,62 @@ static int same(void)
 	return 1;
 }
 
-static uint64_t mix(uint64_t sum, int word, int detail, int slot, int phy, const struct open_frame *frame, uint64_t last)
+static uint64_t digest(int word, int detail, int slot, int phy, const struct open_frame *frame, uint64_t last)
 {
-	return sum * 31 + (uint64_t)word + 16 * (uint64_t)detail + 256 * (uint64_t)slot + 65536 * (uint64_t)phy + frame->head.destination + last;
+	return (uint64_t)word + 16 * (uint64_t)detail + 256 * (uint64_t)slot + 65536 * (uint64_t)phy + frame->head.destination + last;
+}
+
+static uint64_t of_reply(struct reply r)
+{
+	return digest(r.word, r.detail, r.slot, r.phy, &r.frame, r.port.last);
+}
+
+static uint64_t of_answer(const struct answer *a, const struct port *p)
+{
+	return digest(a->word, a->detail, a->slot, a->phy, &a->frame, p->last);
+}
+
+static uint64_t one_choose(enum side side)
+{
+	if (side == OURS) {
+		return of_reply(port_choose(lists[OURS], LENGTH, port, moment));
+	}
+	struct port p = port;
+	struct answer a;
+	plain_choose(lists[PLAIN], LENGTH, &p, moment.now, &a);
+	return of_answer(&a, &p);
+}
+
+static uint64_t one_submit(enum side side)
+{
+	if (side == OURS) {
+		return of_reply(port_submit(lists[OURS], LENGTH, port, wish));
+	}
+	struct port p = port;
+	struct answer a;
+	plain_submit(lists[PLAIN], LENGTH, &p, &wish, &a);
+	return of_answer(&a, &p);
+}
+
+/* Each call meets the same list: only its last record changes, and is put back. */
+static uint64_t again(enum side side, uint64_t (*call)(enum side))
+{
+	uint64_t sum = 0;
+	for (int i = 0; i < CALLS; i++) {
+		lists[side][LENGTH - 1] = saved;
+		sum = sum * 31 + call(side);
+	}
+	return sum;
 }
 
 static uint64_t choose(enum side side)
 {
-	uint64_t sum = 0;
-	for (int i = 0; i < CALLS; i++) {
-		lists[side][LENGTH - 1] = saved;
-		if (side == OURS) {
-			struct reply r = port_choose(lists[OURS], LENGTH, port, moment);
-			sum = mix(sum, r.word, r.detail, r.slot, r.phy, &r.frame, r.port.last);
-		} else {
-			struct port p = port;
-			struct answer a;
-			plain_choose(lists[PLAIN], LENGTH, &p, moment.now, &a);
-			sum = mix(sum, a.word, a.detail, a.slot, a.phy, &a.frame, p.last);
-		}
-	}
-	return sum;
+	return again(side, one_choose);
 }
 
 static uint64_t submit(enum side side)
 {
-	uint64_t sum = 0;
-	for (int i = 0; i < CALLS; i++) {
-		lists[side][LENGTH - 1] = saved;
-		if (side == OURS) {
-			struct reply r = port_submit(lists[OURS], LENGTH, port, wish);
-			sum = mix(sum, r.word, r.detail, r.slot, r.phy, &r.frame, r.port.last);
-		} else {
-			struct port p = port;
-			struct answer a;
-			plain_submit(lists[PLAIN], LENGTH, &p, &wish, &a);
-			sum = mix(sum, a.word, a.detail, a.slot, a.phy, &a.frame, p.last);
-		}
-	}
-	return sum;
+	return again(side, one_submit);
 }
 
 /* Ours is a call about a phy that the port doesn't have: it tests the rules, and is refused with 4. */
