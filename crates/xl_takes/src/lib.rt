@@ -1,7 +1,12 @@
 // Document 01, 'XL: one event, one step': its table, state by state.
+ghost use mathlib.Core.Bool.{not, cond};
+ghost use mathlib.Core.List.{[], _∷_};
 ghost use mathlib.Core.Path.{_≡_};
+ghost use Rattle.xl_parts.specs.declared.Action.{Action};
+ghost use Rattle.xl_parts.specs.declared.Message.{Message};
 ghost use Rattle.xl_parts.specs.declared.Phase.{Phase};
-ghost use Rattle.xl_parts.specs.Parts.{hears, sees, breaks, closes, blocks, forgets, remembering, hold, done};
+ghost use Rattle.xl_parts.specs.declared.Primitive.{Primitive};
+ghost use Rattle.xl_parts.specs.Parts.{hears, sees, breaks, closes, blocks, forgets, remembering, hold, entered, stay, to, done};
 ghost use Rattle.xl_rows.specs.Table.{counted, unexpected, broken, rejectFor, waitFor, isBlocked, timedOut, forwarded, seen, returns, backoff, crossed, heardIn6, remembered, sentIn5, closing, inState, onBreak};
 ghost use Rattle.xl_rows.specs.Table as table;
 use open_frame::OpenFrame;
@@ -134,15 +139,15 @@ fn blocking(s: State, b: bool) -> State
     t
 }
 
-fn forgetting(s: State) -> State
-    ensures { λ r. ⌜ r ≡ remembering forgets s ⌝ }
+// XL6, whose entry clears nothing, with BREAK and OPEN forgotten.
+fn in_6(s: State) -> State
+    ensures { λ r. ⌜ r ≡ remembering forgets (entered Phase.Xl6 s) ⌝ }
 {
     let m = s.memory;
-    let phase = s.phase;
     let held = m.held;
     let aip = m.aip;
     State {
-        phase,
+        phase: Phase::Xl6,
         memory: Memory {
             held,
             heard: Held::Nothing,
@@ -184,6 +189,41 @@ fn is_blocked(a: Arbitration) -> bool
         Arbitration::BlockedOnPartial => true,
         Arbitration::WaitingOnConnection => false,
     }
+}
+
+// What a row transmits, and the state that it goes to.
+fn transmits(s: State, a: Primitive, p: Phase) -> Stepped
+    ensures { λ r. ⌜ r ≡ done (to p (Action.Transmit a ∷ []) s) ⌝ }
+{
+    after(Action::Transmit(a), goes(s, p))
+}
+
+// The same, and the state stays.
+fn transmits_here(s: State, a: Primitive) -> Stepped
+    ensures { λ r. ⌜ r ≡ done (stay (Action.Transmit a ∷ []) s) ⌝ }
+{
+    after(Action::Transmit(a), stays(s))
+}
+
+// What a row sends to the router, and the state that it goes to.
+fn sends(s: State, m: Message, p: Phase) -> Stepped
+    ensures { λ r. ⌜ r ≡ done (to p (Action.Send m ∷ []) s) ⌝ }
+{
+    after(Action::Send(m), goes(s, p))
+}
+
+// The same, and the state stays.
+fn sends_here(s: State, m: Message) -> Stepped
+    ensures { λ r. ⌜ r ≡ done (stay (Action.Send m ∷ []) s) ⌝ }
+{
+    after(Action::Send(m), stays(s))
+}
+
+// The frame is held and transmitted as OPEN.
+fn opens(s: State, f: OpenFrame) -> Stepped
+    ensures { λ r. ⌜ r ≡ done (to Phase.Xl5 (Action.Transmit Primitive.Open ∷ []) (hold f s)) ⌝ }
+{
+    transmits(holding(s, f), Primitive::Open, Phase::Xl5)
 }
 
 fn timed_out(s: State) -> Stepped
@@ -229,16 +269,11 @@ fn comes_back(g: OpenFrame, f: OpenFrame) -> bool
 fn backs_off(s: State, f: OpenFrame, g: OpenFrame) -> Stepped
     ensures { λ r. ⌜ r ≡ done (backoff f g s) ⌝ }
 {
+    let t = holding(s, g);
     if comes_back(g, f) {
-        return after(
-            Action::Send(Message::BackoffReversePath),
-            goes(holding(s, g), Phase::Xl2),
-        );
+        return sends(t, Message::BackoffReversePath, Phase::Xl2);
     }
-    after(
-        Action::Send(Message::BackoffRetry),
-        goes(holding(s, g), Phase::Xl1),
-    )
+    sends(t, Message::BackoffRetry, Phase::Xl1)
 }
 
 // An OPEN received in XL6.
@@ -262,8 +297,8 @@ fn hears_in_6(s: State, heard: Held) -> Stepped
     ensures { λ r. ⌜ r ≡ done (heardIn6 heard s) ⌝ }
 {
     match heard {
-        Held::Nothing => stays(s),
-        Held::Frame(g) => crosses(s, g),
+        Held::Nothing => return stays(s),
+        Held::Frame(g) => return crosses(s, g),
     }
 }
 
@@ -282,39 +317,53 @@ fn sent_in_5(s: State) -> Stepped
     ensures { λ r. ⌜ r ≡ done (sentIn5 s) ⌝ }
 {
     let m = s.memory;
-    let entered = goes(s, Phase::Xl6);
-    let t = entered.state;
     after(
         Action::Send(Message::ArbStatus(Wait::Device)),
-        remembers(forgetting(t), m),
+        remembers(in_6(s), m),
     )
 }
 
+// CLOSE received in XL7.
+fn close_in_7(s: State) -> Stepped
+    ensures { λ r. ⌜ r ≡ done (cond (not (s .memory .close)) (stay (Action.Send Message.SendClose ∷ []) (remembering closes s)) (unexpected s)) ⌝ }
+{
+    if s.memory.close {
+        return surprised(s);
+    }
+    sends_here(closed(s), Message::SendClose)
+}
+
+// SendClose in XL7.
 fn closes_in_7(s: State) -> Stepped
     ensures { λ r. ⌜ r ≡ done (closing s) ⌝ }
 {
     if s.memory.close {
-        return after(Action::Transmit(Primitive::Close), goes(s, Phase::Xl0));
+        return transmits(s, Primitive::Close, Phase::Xl0);
     }
-    after(Action::Transmit(Primitive::Close), goes(s, Phase::Xl8))
+    transmits(s, Primitive::Close, Phase::Xl8)
 }
 
+// Arbitrating in XL1.
+fn arbitrates(s: State, a: Arbitration) -> Stepped
+    ensures { λ r. ⌜ r ≡ done (stay (Action.Transmit (Primitive.Aip (waitFor a)) ∷ []) (remembering (blocks (isBlocked a)) s)) ⌝ }
+{
+    transmits_here(blocking(s, is_blocked(a)), Primitive::Aip(wait_for(a)))
+}
+
+// The states' rows. Each arm returns: a match that has a value has a place for it, which the checker then follows through the function.
 fn at_0(s: State, e: Event, f: OpenFrame) -> Stepped
     ensures { λ r. ⌜ r ≡ done (inState Phase.Xl0 f e s) ⌝ }
 {
     match e {
         Event::Line(p) => match p {
-            Primitive::Open => goes(holding(s, f), Phase::Xl1),
-            _ => surprised(s),
+            Primitive::Open => return goes(holding(s, f), Phase::Xl1),
+            _ => return surprised(s),
         },
         Event::Router(m) => match m {
-            Message::SendOpen => after(
-                Action::Transmit(Primitive::Open),
-                goes(holding(s, f), Phase::Xl5),
-            ),
-            _ => surprised(s),
+            Message::SendOpen => return opens(s, f),
+            _ => return surprised(s),
         },
-        _ => surprised(s),
+        _ => return surprised(s),
     }
 }
 
@@ -323,22 +372,18 @@ fn at_1(s: State, e: Event, f: OpenFrame) -> Stepped
 {
     match e {
         Event::Manager(c) => match c {
-            Confirmation::ArbWon => after(Action::Send(Message::SendOpen), goes(s, Phase::Xl2)),
-            Confirmation::ArbLost => goes(s, Phase::Xl0),
-            Confirmation::ArbReject(d) => after(
-                Action::Transmit(Primitive::OpenReject(reject_for(d))),
-                goes(s, Phase::Xl4),
-            ),
-            Confirmation::Arbitrating(a) => after(
-                Action::Transmit(Primitive::Aip(wait_for(a))),
-                stays(blocking(s, is_blocked(a))),
-            ),
+            Confirmation::ArbWon => return sends(s, Message::SendOpen, Phase::Xl2),
+            Confirmation::ArbLost => return goes(s, Phase::Xl0),
+            Confirmation::ArbReject(d) => {
+                return transmits(s, Primitive::OpenReject(reject_for(d)), Phase::Xl4);
+            }
+            Confirmation::Arbitrating(a) => return arbitrates(s, a),
         },
         Event::Own(n) => match n {
-            Notice::PathTimer => timed_out(s),
-            _ => surprised(s),
+            Notice::PathTimer => return timed_out(s),
+            _ => return surprised(s),
         },
-        _ => surprised(s),
+        _ => return surprised(s),
     }
 }
 
@@ -347,10 +392,10 @@ fn at_2(s: State, e: Event, f: OpenFrame) -> Stepped
 {
     match e {
         Event::Own(n) => match n {
-            Notice::Forwarded => forwards(s),
-            _ => surprised(s),
+            Notice::Forwarded => return forwards(s),
+            _ => return surprised(s),
         },
-        _ => surprised(s),
+        _ => return surprised(s),
     }
 }
 
@@ -359,26 +404,14 @@ fn at_3(s: State, e: Event, f: OpenFrame) -> Stepped
 {
     match e {
         Event::Router(m) => match m {
-            Message::ArbStatus(w) => after(
-                Action::Transmit(Primitive::Aip(w)),
-                stays(seeing(s, w)),
-            ),
-            Message::OpenAccept => after(
-                Action::Transmit(Primitive::OpenAccept),
-                goes(s, Phase::Xl7),
-            ),
-            Message::OpenReject(k) => after(
-                Action::Transmit(Primitive::OpenReject(k)),
-                goes(s, Phase::Xl0),
-            ),
-            Message::BackoffRetry => goes(s, Phase::Xl1),
-            Message::BackoffReversePath => after(
-                Action::Transmit(Primitive::Open),
-                goes(holding(s, f), Phase::Xl5),
-            ),
-            _ => surprised(s),
+            Message::ArbStatus(w) => return transmits_here(seeing(s, w), Primitive::Aip(w)),
+            Message::OpenAccept => return transmits(s, Primitive::OpenAccept, Phase::Xl7),
+            Message::OpenReject(k) => return transmits(s, Primitive::OpenReject(k), Phase::Xl0),
+            Message::BackoffRetry => return goes(s, Phase::Xl1),
+            Message::BackoffReversePath => return opens(s, f),
+            _ => return surprised(s),
         },
-        _ => surprised(s),
+        _ => return surprised(s),
     }
 }
 
@@ -388,10 +421,10 @@ fn at_4_and_9(s: State, e: Event, f: OpenFrame) -> Stepped
 {
     match e {
         Event::Own(n) => match n {
-            Notice::Sent => goes(s, Phase::Xl0),
-            _ => surprised(s),
+            Notice::Sent => return goes(s, Phase::Xl0),
+            _ => return surprised(s),
         },
-        _ => surprised(s),
+        _ => return surprised(s),
     }
 }
 
@@ -400,14 +433,14 @@ fn at_5(s: State, e: Event, f: OpenFrame) -> Stepped
 {
     match e {
         Event::Line(p) => match p {
-            Primitive::Open => stays(hearing(s, f)),
-            _ => surprised(s),
+            Primitive::Open => return stays(hearing(s, f)),
+            _ => return surprised(s),
         },
         Event::Own(n) => match n {
-            Notice::Sent => sent_in_5(s),
-            _ => surprised(s),
+            Notice::Sent => return sent_in_5(s),
+            _ => return surprised(s),
         },
-        _ => surprised(s),
+        _ => return surprised(s),
     }
 }
 
@@ -416,16 +449,13 @@ fn at_6(s: State, e: Event, f: OpenFrame) -> Stepped
 {
     match e {
         Event::Line(p) => match p {
-            Primitive::OpenAccept => after(Action::Send(Message::OpenAccept), goes(s, Phase::Xl7)),
-            Primitive::OpenReject(k) => after(
-                Action::Send(Message::OpenReject(k)),
-                goes(s, Phase::Xl0),
-            ),
-            Primitive::Aip(w) => after(Action::Send(Message::ArbStatus(w)), stays(seeing(s, w))),
-            Primitive::Open => crosses(s, f),
-            Primitive::Close => surprised(s),
+            Primitive::OpenAccept => return sends(s, Message::OpenAccept, Phase::Xl7),
+            Primitive::OpenReject(k) => return sends(s, Message::OpenReject(k), Phase::Xl0),
+            Primitive::Aip(w) => return sends_here(seeing(s, w), Message::ArbStatus(w)),
+            Primitive::Open => return crosses(s, f),
+            Primitive::Close => return surprised(s),
         },
-        _ => surprised(s),
+        _ => return surprised(s),
     }
 }
 
@@ -434,19 +464,14 @@ fn at_7(s: State, e: Event, f: OpenFrame) -> Stepped
 {
     match e {
         Event::Line(p) => match p {
-            Primitive::Close => {
-                if s.memory.close {
-                    return surprised(s);
-                }
-                return after(Action::Send(Message::SendClose), stays(closed(s)));
-            }
-            _ => surprised(s),
+            Primitive::Close => return close_in_7(s),
+            _ => return surprised(s),
         },
         Event::Router(m) => match m {
-            Message::SendClose => closes_in_7(s),
-            _ => surprised(s),
+            Message::SendClose => return closes_in_7(s),
+            _ => return surprised(s),
         },
-        _ => surprised(s),
+        _ => return surprised(s),
     }
 }
 
@@ -455,10 +480,10 @@ fn at_8(s: State, e: Event, f: OpenFrame) -> Stepped
 {
     match e {
         Event::Line(p) => match p {
-            Primitive::Close => after(Action::Send(Message::SendClose), goes(s, Phase::Xl0)),
-            _ => surprised(s),
+            Primitive::Close => return sends(s, Message::SendClose, Phase::Xl0),
+            _ => return surprised(s),
         },
-        _ => surprised(s),
+        _ => return surprised(s),
     }
 }
 
@@ -468,17 +493,16 @@ fn by_phase(s: State, e: Event, f: OpenFrame) -> Stepped
 {
     let phase = s.phase;
     match phase {
-        Phase::Xl0 => at_0(s, e, f),
-        Phase::Xl1 => at_1(s, e, f),
-        Phase::Xl2 => at_2(s, e, f),
-        Phase::Xl3 => at_3(s, e, f),
-        Phase::Xl4 => at_4_and_9(s, e, f),
-        Phase::Xl5 => at_5(s, e, f),
-        Phase::Xl6 => at_6(s, e, f),
-        Phase::Xl7 => at_7(s, e, f),
-        Phase::Xl8 => at_8(s, e, f),
-        Phase::Xl9 => at_4_and_9(s, e, f),
-        Phase::Xl10 => surprised(s),
+        Phase::Xl0 => return at_0(s, e, f),
+        Phase::Xl1 => return at_1(s, e, f),
+        Phase::Xl2 => return at_2(s, e, f),
+        Phase::Xl3 => return at_3(s, e, f),
+        Phase::Xl4 | Phase::Xl9 => return at_4_and_9(s, e, f),
+        Phase::Xl5 => return at_5(s, e, f),
+        Phase::Xl6 => return at_6(s, e, f),
+        Phase::Xl7 => return at_7(s, e, f),
+        Phase::Xl8 => return at_8(s, e, f),
+        Phase::Xl10 => return surprised(s),
     }
 }
 
@@ -486,9 +510,8 @@ fn break_in_1(s: State, b: BreakEvent) -> Stepped
     ensures { λ r. ⌜ r ≡ done (onBreak Phase.Xl1 b s) ⌝ }
 {
     match b {
-        BreakEvent::Received => goes(s, Phase::Xl9),
-        BreakEvent::Routed => surprised(s),
-        BreakEvent::Timeout => surprised(s),
+        BreakEvent::Received => return goes(s, Phase::Xl9),
+        _ => return surprised(s),
     }
 }
 
@@ -497,9 +520,8 @@ fn break_in_2_and_5(s: State, b: BreakEvent) -> Stepped
     ensures { λ r. ⌜ r ≡ done (onBreak Phase.Xl2 b s) ⌝ }
 {
     match b {
-        BreakEvent::Received => stays(breaking(s)),
-        BreakEvent::Routed => surprised(s),
-        BreakEvent::Timeout => surprised(s),
+        BreakEvent::Received => return stays(breaking(s)),
+        _ => return surprised(s),
     }
 }
 
@@ -508,9 +530,9 @@ fn break_joined(s: State, b: BreakEvent) -> Stepped
     ensures { λ r. ⌜ r ≡ done (onBreak Phase.Xl3 b s) ⌝ }
 {
     match b {
-        BreakEvent::Received => breaks_off(s),
-        BreakEvent::Routed => goes(s, Phase::Xl10),
-        BreakEvent::Timeout => surprised(s),
+        BreakEvent::Received => return breaks_off(s),
+        BreakEvent::Routed => return goes(s, Phase::Xl10),
+        BreakEvent::Timeout => return surprised(s),
     }
 }
 
@@ -518,9 +540,8 @@ fn break_in_10(s: State, b: BreakEvent) -> Stepped
     ensures { λ r. ⌜ r ≡ done (onBreak Phase.Xl10 b s) ⌝ }
 {
     match b {
-        BreakEvent::Received => goes(s, Phase::Xl0),
-        BreakEvent::Routed => surprised(s),
-        BreakEvent::Timeout => goes(s, Phase::Xl0),
+        BreakEvent::Routed => return surprised(s),
+        _ => return goes(s, Phase::Xl0),
     }
 }
 
@@ -529,17 +550,11 @@ fn on_break(s: State, b: BreakEvent) -> Stepped
 {
     let phase = s.phase;
     match phase {
-        Phase::Xl0 => surprised(s),
-        Phase::Xl1 => break_in_1(s, b),
-        Phase::Xl2 => break_in_2_and_5(s, b),
-        Phase::Xl3 => break_joined(s, b),
-        Phase::Xl4 => surprised(s),
-        Phase::Xl5 => break_in_2_and_5(s, b),
-        Phase::Xl6 => break_joined(s, b),
-        Phase::Xl7 => break_joined(s, b),
-        Phase::Xl8 => break_joined(s, b),
-        Phase::Xl9 => surprised(s),
-        Phase::Xl10 => break_in_10(s, b),
+        Phase::Xl1 => return break_in_1(s, b),
+        Phase::Xl2 | Phase::Xl5 => return break_in_2_and_5(s, b),
+        Phase::Xl3 | Phase::Xl6 | Phase::Xl7 | Phase::Xl8 => return break_joined(s, b),
+        Phase::Xl10 => return break_in_10(s, b),
+        _ => return surprised(s),
     }
 }
 
@@ -548,8 +563,8 @@ pub fn takes(s: State, e: Event, f: OpenFrame) -> Stepped
     ensures { λ r. ⌜ r ≡ done (table.takes f e s) ⌝ }
 {
     match e {
-        Event::Break(b) => on_break(s, b),
-        Event::Disable => goes(s, Phase::Xl0),
-        _ => by_phase(s, e, f),
+        Event::Break(b) => return on_break(s, b),
+        Event::Disable => return goes(s, Phase::Xl0),
+        _ => return by_phase(s, e, f),
     }
 }

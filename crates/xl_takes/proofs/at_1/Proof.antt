@@ -19,17 +19,20 @@ enum-known-e c = search needs
 enum-told : tie.Need-enum-told
 enum-told c = search needs
 
-goes-requires : tie.Need-goes-requires
-goes-requires c κs = search needs
+sends-requires : tie.Need-sends-requires
+sends-requires c κs = search needs
 
-after-requires : tie.Need-after-requires
-after-requires c κs = search needs
+returns : tie.Need-returns
+returns c = rw (c .sends .ensures, c .before .before .before .before .e .given .1, c .before .enum-told .given .1)
 
 enum-told-2 : tie.Need-enum-told-2
 enum-told-2 c = search needs
 
-goes-requires-2 : tie.Need-goes-requires-2
-goes-requires-2 c κs = search needs
+goes-requires : tie.Need-goes-requires
+goes-requires c κs = search needs
+
+returns-2 : tie.Need-returns-2
+returns-2 c = rw (c .goes .ensures, c .before .before .before .before .e .given .1, c .before .enum-told2 .given .1)
 
 enum-known-c : tie.Need-enum-known-c
 enum-known-c c = search needs
@@ -37,29 +40,20 @@ enum-known-c c = search needs
 reject-for-requires : tie.Need-reject-for-requires
 reject-for-requires c κs = search needs
 
-goes-requires-3 : tie.Need-goes-requires-3
-goes-requires-3 c κs = search needs
+transmits-requires : tie.Need-transmits-requires
+transmits-requires c κs = search needs
 
-after-requires-2 : tie.Need-after-requires-2
-after-requires-2 c κs = search needs
+returns-3 : tie.Need-returns-3
+returns-3 c = rw (c .transmits .ensures, c .before .reject-for .ensures, c .before .before .before .before .before .before .e .given .1, c .before .before .before .c .given .1)
 
 enum-known-c-2 : tie.Need-enum-known-c-2
 enum-known-c-2 c = search needs
 
-wait-for-requires : tie.Need-wait-for-requires
-wait-for-requires c κs = search needs
+arbitrates-requires : tie.Need-arbitrates-requires
+arbitrates-requires c κs = search needs
 
-is-blocked-requires : tie.Need-is-blocked-requires
-is-blocked-requires c κs = search needs
-
-blocking-requires : tie.Need-blocking-requires
-blocking-requires c κs = search needs
-
-stays-requires : tie.Need-stays-requires
-stays-requires c κs = search needs
-
-after-requires-3 : tie.Need-after-requires-3
-after-requires-3 c κs = search needs
+returns-4 : tie.Need-returns-4
+returns-4 c = rw (c .arbitrates .ensures, c .before .before .before .before .before .e .given .1, c .before .before .c2 .given .1)
 
 enum-known-e-2 : tie.Need-enum-known-e-2
 enum-known-e-2 c = search needs
@@ -70,29 +64,17 @@ enum-told-3 c = search needs
 timed-out-requires : tie.Need-timed-out-requires
 timed-out-requires c κs = search needs
 
-surprised-requires : tie.Need-surprised-requires
-surprised-requires c κs = search needs
-
-surprised-requires-2 : tie.Need-surprised-requires-2
-surprised-requires-2 c κs = search needs
-
-returns : tie.Need-returns
-returns c = rw (c .after .ensures, c .before .goes .ensures, c .before .before .before .before .before .e .given .1, c .before .before .enum-told .given .1)
-
-returns-2 : tie.Need-returns-2
-returns-2 c = rw (c .goes2 .ensures, c .before .before .before .before .e .given .1, c .before .enum-told2 .given .1)
-
-returns-3 : tie.Need-returns-3
-returns-3 c = rw (c .after2 .ensures, c .before .goes3 .ensures, c .before .before .reject-for .ensures, c .before .before .before .before .before .before .before .e .given .1, c .before .before .before .before .c .given .1)
-
-returns-4 : tie.Need-returns-4
-returns-4 c = rw (c .after3 .ensures, c .before .stays .ensures, c .before .before .blocking .ensures, c .before .before .before .is-blocked .ensures, c .before .before .before .before .wait-for .ensures, c .before .before .before .before .before .before .before .before .before .e .given .1, c .before .before .before .before .before .before .c2 .given .1)
-
 returns-5 : tie.Need-returns-5
 returns-5 c = rw (c .timed-out .ensures, c .before .before .before .before .e2 .given .1, c .before .enum-told3 .given .1)
 
+surprised-requires : tie.Need-surprised-requires
+surprised-requires c κs = search needs
+
 returns-6 : tie.Need-returns-6
 returns-6 c = rw (c .before .before .before .e2 .given .1) (c .surprised .ensures ∙ rest notice.enum (λ (x : Notice). done (inState Phase.Xl1 (c .before .before .before .before .before .args .f) (Event.Own x) (c .before .before .before .before .before .args .s))) (done (unexpected (c .before .before .before .before .before .args .s))) (0 ∷ []) (search depth 40) (c .before .before .before .e2 .given .0 .0) (c .before .match3 .keys2))
+
+surprised-requires-2 : tie.Need-surprised-requires-2
+surprised-requires-2 c κs = search needs
 
 returns-7 : tie.Need-returns-7
 returns-7 c = c .surprised2 .ensures ∙ rest event.enum (λ (x : Event). done (inState Phase.Xl1 (c .before .before .args .f) x (c .before .before .args .s))) (done (unexpected (c .before .before .args .s))) (2 ∷ 3 ∷ []) (search depth 40) (c .before .before .args .e) (c .before .match .keys3)
@@ -103,29 +85,23 @@ at-1-spec =
     (tie.spec
     enum-known-e
     enum-told
-    goes-requires
-    after-requires
+    sends-requires
+    returns
     enum-told-2
-    goes-requires-2
+    goes-requires
+    returns-2
     enum-known-c
     reject-for-requires
-    goes-requires-3
-    after-requires-2
+    transmits-requires
+    returns-3
     enum-known-c-2
-    wait-for-requires
-    is-blocked-requires
-    blocking-requires
-    stays-requires
-    after-requires-3
+    arbitrates-requires
+    returns-4
     enum-known-e-2
     enum-told-3
     timed-out-requires
-    surprised-requires
-    surprised-requires-2
-    returns
-    returns-2
-    returns-3
-    returns-4
     returns-5
+    surprised-requires
     returns-6
+    surprised-requires-2
     returns-7)

@@ -17,20 +17,20 @@ enum-known-e c = search needs
 enum-told : tie.Need-enum-told
 enum-told c = search needs
 
-goes-requires : tie.Need-goes-requires
-goes-requires c κs = search needs
+sends-requires : tie.Need-sends-requires
+sends-requires c κs = search needs
 
-after-requires : tie.Need-after-requires
-after-requires c κs = search needs
+returns : tie.Need-returns
+returns c = rw (c .sends .ensures, c .before .before .before .before .e .given .1, c .before .enum-told .given .1)
 
 enum-known-p : tie.Need-enum-known-p
 enum-known-p c = search needs
 
-goes-requires-2 : tie.Need-goes-requires-2
-goes-requires-2 c κs = search needs
+sends-requires-2 : tie.Need-sends-requires-2
+sends-requires-2 c κs = search needs
 
-after-requires-2 : tie.Need-after-requires-2
-after-requires-2 c κs = search needs
+returns-2 : tie.Need-returns-2
+returns-2 c = rw (c .sends2 .ensures, c .before .before .before .before .before .e .given .1, c .before .before .p .given .1)
 
 enum-known-p-2 : tie.Need-enum-known-p-2
 enum-known-p-2 c = search needs
@@ -38,11 +38,11 @@ enum-known-p-2 c = search needs
 seeing-requires : tie.Need-seeing-requires
 seeing-requires c κs = search needs
 
-stays-requires : tie.Need-stays-requires
-stays-requires c κs = search needs
+sends-here-requires : tie.Need-sends-here-requires
+sends-here-requires c κs = search needs
 
-after-requires-3 : tie.Need-after-requires-3
-after-requires-3 c κs = search needs
+returns-3 : tie.Need-returns-3
+returns-3 c = rw (c .sends-here .ensures, c .before .seeing .ensures, c .before .before .before .before .before .before .e .given .1, c .before .before .before .p2 .given .1)
 
 enum-told-2 : tie.Need-enum-told-2
 enum-told-2 c = search needs
@@ -50,29 +50,20 @@ enum-told-2 c = search needs
 crosses-requires : tie.Need-crosses-requires
 crosses-requires c κs = search needs
 
+returns-4 : tie.Need-returns-4
+returns-4 c = rw (c .crosses .ensures, c .before .before .before .before .e .given .1, c .before .enum-told2 .given .1)
+
 enum-told-3 : tie.Need-enum-told-3
 enum-told-3 c = search needs
 
 surprised-requires : tie.Need-surprised-requires
 surprised-requires c κs = search needs
 
-surprised-requires-2 : tie.Need-surprised-requires-2
-surprised-requires-2 c κs = search needs
-
-returns : tie.Need-returns
-returns c = rw (c .after .ensures, c .before .goes .ensures, c .before .before .before .before .before .e .given .1, c .before .before .enum-told .given .1)
-
-returns-2 : tie.Need-returns-2
-returns-2 c = rw (c .after2 .ensures, c .before .goes2 .ensures, c .before .before .before .before .before .before .e .given .1, c .before .before .before .p .given .1)
-
-returns-3 : tie.Need-returns-3
-returns-3 c = rw (c .after3 .ensures, c .before .stays .ensures, c .before .before .seeing .ensures, c .before .before .before .before .before .before .before .e .given .1, c .before .before .before .before .p2 .given .1)
-
-returns-4 : tie.Need-returns-4
-returns-4 c = rw (c .crosses .ensures, c .before .before .before .before .e .given .1, c .before .enum-told2 .given .1)
-
 returns-5 : tie.Need-returns-5
 returns-5 c = rw (c .surprised .ensures, c .before .before .before .before .e .given .1, c .before .enum-told3 .given .1)
+
+surprised-requires-2 : tie.Need-surprised-requires-2
+surprised-requires-2 c κs = search needs
 
 returns-6 : tie.Need-returns-6
 returns-6 c = c .surprised2 .ensures ∙ rest event.enum (λ (x : Event). done (inState Phase.Xl6 (c .before .before .args .f) x (c .before .before .args .s))) (done (unexpected (c .before .before .args .s))) (0 ∷ []) (search depth 40) (c .before .before .args .e) (c .before .match .keys2)
@@ -83,23 +74,20 @@ at-6-spec =
     (tie.spec
     enum-known-e
     enum-told
-    goes-requires
-    after-requires
+    sends-requires
+    returns
     enum-known-p
-    goes-requires-2
-    after-requires-2
+    sends-requires-2
+    returns-2
     enum-known-p-2
     seeing-requires
-    stays-requires
-    after-requires-3
+    sends-here-requires
+    returns-3
     enum-told-2
     crosses-requires
+    returns-4
     enum-told-3
     surprised-requires
-    surprised-requires-2
-    returns
-    returns-2
-    returns-3
-    returns-4
     returns-5
+    surprised-requires-2
     returns-6)

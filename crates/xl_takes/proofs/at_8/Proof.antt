@@ -19,23 +19,20 @@ enum-known-e c = search needs
 enum-told : tie.Need-enum-told
 enum-told c = search needs
 
-goes-requires : tie.Need-goes-requires
-goes-requires c κs = search needs
+sends-requires : tie.Need-sends-requires
+sends-requires c κs = search needs
 
-after-requires : tie.Need-after-requires
-after-requires c κs = search needs
+returns : tie.Need-returns
+returns c = rw (c .sends .ensures, c .before .before .before .before .e .given .1, c .before .enum-told .given .1)
 
 surprised-requires : tie.Need-surprised-requires
 surprised-requires c κs = search needs
 
-surprised-requires-2 : tie.Need-surprised-requires-2
-surprised-requires-2 c κs = search needs
-
-returns : tie.Need-returns
-returns c = rw (c .after .ensures, c .before .goes .ensures, c .before .before .before .before .before .e .given .1, c .before .before .enum-told .given .1)
-
 returns-2 : tie.Need-returns-2
 returns-2 c = rw (c .before .before .before .e .given .1) (c .surprised .ensures ∙ rest primitive.enum (λ (x : Primitive). done (inState Phase.Xl8 (c .before .before .before .before .before .args .f) (Event.Line x) (c .before .before .before .before .before .args .s))) (done (unexpected (c .before .before .before .before .before .args .s))) (4 ∷ []) (search depth 40) (c .before .before .before .e .given .0 .0) (c .before .match2 .keys2))
+
+surprised-requires-2 : tie.Need-surprised-requires-2
+surprised-requires-2 c κs = search needs
 
 returns-3 : tie.Need-returns-3
 returns-3 c = c .surprised2 .ensures ∙ rest event.enum (λ (x : Event). done (inState Phase.Xl8 (c .before .before .args .f) x (c .before .before .args .s))) (done (unexpected (c .before .before .args .s))) (0 ∷ []) (search depth 40) (c .before .before .args .e) (c .before .match .keys2)
@@ -46,10 +43,9 @@ at-8-spec =
     (tie.spec
     enum-known-e
     enum-told
-    goes-requires
-    after-requires
-    surprised-requires
-    surprised-requires-2
+    sends-requires
     returns
+    surprised-requires
     returns-2
+    surprised-requires-2
     returns-3)

@@ -1,5 +1,13 @@
--- Each case is computed, with what its callees promise. Assumes nothing.
+-- Each case is computed, with what its callees promise; an arm for several cases is the law of what holds at each of them. Assumes nothing.
+use mathlib.Core.List.{[], _∷_}
+use mathlib.Core.Path.{_∙_}
 use borrow.Author.Needs.{needs}
+use Rattle.laws.proofs.Rest.{rest}
+use Rattle.xl_parts.specs.declared.BreakEvent.{BreakEvent}
+use Rattle.xl_parts.specs.declared.Phase.{Phase}
+use Rattle.xl_parts.proofs.BreakEvent as break-event
+use Rattle.xl_parts.specs.Parts.{done}
+use Rattle.xl_rows.specs.Table.{unexpected, onBreak}
 use Rattle.xl_takes.proofs.break_in_2_and_5.Statement.{statement}
 use Rattle.xl_takes.proofs.break_in_2_and_5.Tie as tie
 
@@ -12,38 +20,16 @@ breaking-requires c κs = search needs
 stays-requires : tie.Need-stays-requires
 stays-requires c κs = search needs
 
-enum-told-2 : tie.Need-enum-told-2
-enum-told-2 c = search needs
+returns : tie.Need-returns
+returns c = rw (c .stays .ensures, c .before .breaking .ensures, c .before .before .enum-told .given .1)
 
 surprised-requires : tie.Need-surprised-requires
 surprised-requires c κs = search needs
 
-enum-told-3 : tie.Need-enum-told-3
-enum-told-3 c = search needs
-
-surprised-requires-2 : tie.Need-surprised-requires-2
-surprised-requires-2 c κs = search needs
-
-returns : tie.Need-returns
-returns c = rw (c .stays .ensures, c .before .breaking .ensures, c .before .before .enum-told .given .1)
-
 returns-2 : tie.Need-returns-2
-returns-2 c = rw (c .surprised .ensures, c .before .enum-told2 .given .1)
-
-returns-3 : tie.Need-returns-3
-returns-3 c = rw (c .surprised2 .ensures, c .before .enum-told3 .given .1)
+returns-2 c = c .surprised .ensures ∙ rest break-event.enum (λ (b : BreakEvent). done (onBreak Phase.Xl2 b (c .before .before .args .s))) (done (unexpected (c .before .before .args .s))) (0 ∷ []) (search depth 40) (c .before .before .args .b) (c .before .match .keys2)
 
 pub break-in-2-and-5-spec : {M : Type 1} → statement M
 break-in-2-and-5-spec =
     tie.close
-    (tie.spec
-    enum-told
-    breaking-requires
-    stays-requires
-    enum-told-2
-    surprised-requires
-    enum-told-3
-    surprised-requires-2
-    returns
-    returns-2
-    returns-3)
+    (tie.spec enum-told breaking-requires stays-requires returns surprised-requires returns-2)

@@ -9,14 +9,14 @@ enum-told c = search needs
 stays-requires : tie.Need-stays-requires
 stays-requires c κs = search needs
 
+returns : tie.Need-returns
+returns c = rw (c .stays .ensures, c .before .enum-told .given .1)
+
 enum-known-heard : tie.Need-enum-known-heard
 enum-known-heard c = search needs
 
 crosses-requires : tie.Need-crosses-requires
 crosses-requires c κs = search needs
-
-returns : tie.Need-returns
-returns c = rw (c .stays .ensures, c .before .enum-told .given .1)
 
 returns-2 : tie.Need-returns-2
 returns-2 c = rw (c .crosses .ensures, c .before .before .heard .given .1)
@@ -24,4 +24,4 @@ returns-2 c = rw (c .crosses .ensures, c .before .before .heard .given .1)
 pub hears-in-6-spec : {M : Type 1} → statement M
 hears-in-6-spec =
     tie.close
-    (tie.spec enum-told stays-requires enum-known-heard crosses-requires returns returns-2)
+    (tie.spec enum-told stays-requires returns enum-known-heard crosses-requires returns-2)

@@ -10,11 +10,8 @@ use Rattle.xl_rows.specs.Table.{remembered}
 use Rattle.xl_takes.proofs.sent_in_5.Statement.{statement}
 use Rattle.xl_takes.proofs.sent_in_5.Tie as tie
 
-goes-requires : tie.Need-goes-requires
-goes-requires c κs = search needs
-
-forgetting-requires : tie.Need-forgetting-requires
-forgetting-requires c κs = search needs
+in-6-requires : tie.Need-in-6-requires
+in-6-requires c κs = search needs
 
 remembers-requires : tie.Need-remembers-requires
 remembers-requires c κs = search needs
@@ -24,10 +21,8 @@ after-requires c κs = search needs
 
 returns : tie.Need-returns
 returns c =
-    let s = c .before .before .before .before .before .before .args .s in
-    rw (c .after .ensures, c .before .remembers .ensures, c .before .before .forgetting .ensures, c .before .before .before .before .goes .ensures) (pushes (Action.Send (Message.ArbStatus Wait.Device)) (remembered (s .memory) (remembering forgets (entered Phase.Xl6 s))))
+    let s = c .before .before .before .before .args .s in
+    rw (c .after .ensures, c .before .remembers .ensures, c .before .before .in-6 .ensures) (pushes (Action.Send (Message.ArbStatus Wait.Device)) (remembered (s .memory) (remembering forgets (entered Phase.Xl6 s))))
 
 pub sent-in-5-spec : {M : Type 1} → statement M
-sent-in-5-spec =
-    tie.close
-    (tie.spec goes-requires forgetting-requires remembers-requires after-requires returns)
+sent-in-5-spec = tie.close (tie.spec in-6-requires remembers-requires after-requires returns)
