@@ -7,7 +7,7 @@ ghost use Rattle.xl_parts.specs.declared.Message.{Message};
 ghost use Rattle.xl_parts.specs.declared.Phase.{Phase};
 ghost use Rattle.xl_parts.specs.declared.Primitive.{Primitive};
 ghost use Rattle.xl_parts.specs.Parts.{hears, sees, breaks, closes, blocks, forgets, remembering, hold, entered, stay, to, done};
-ghost use Rattle.xl_rows.specs.Table.{counted, unexpected, broken, rejectFor, waitFor, isBlocked, timedOut, forwarded, seen, returns, backoff, crossed, heardIn6, remembered, sentIn5, closing, inState, onBreak};
+ghost use Rattle.xl_rows.specs.Table.{counted, unexpected, broken, rejectFor, waitFor, isBlocked, timedOut, forwarded, seen, returns, backoff, crossed, remembered, sentIn5, closing, inState, onBreak};
 ghost use Rattle.xl_rows.specs.Table as table;
 use open_frame::OpenFrame;
 use xl_parts::Action;
@@ -292,16 +292,6 @@ fn crosses(s: State, g: OpenFrame) -> Stepped
     backs_off(s, f, g)
 }
 
-// The OPEN that was remembered, taken in XL6.
-fn hears_in_6(s: State, heard: Held) -> Stepped
-    ensures { λ r. ⌜ r ≡ done (heardIn6 heard s) ⌝ }
-{
-    match heard {
-        Held::Nothing => return stays(s),
-        Held::Frame(g) => return crosses(s, g),
-    }
-}
-
 // What XL5 remembered, taken in XL6.
 fn remembers(s: State, m: Memory) -> Stepped
     ensures { λ r. ⌜ r ≡ done (remembered m s) ⌝ }
@@ -310,7 +300,10 @@ fn remembers(s: State, m: Memory) -> Stepped
         return breaks_off(s);
     }
     let heard = m.heard;
-    hears_in_6(s, heard)
+    let Held::Frame(g) = heard else {
+        return stays(s);
+    };
+    crosses(s, g)
 }
 
 fn sent_in_5(s: State) -> Stepped
@@ -487,61 +480,22 @@ fn at_8(s: State, e: Event, f: OpenFrame) -> Stepped
     }
 }
 
-// What is neither of BREAK nor Disable.
+// What is neither of BREAK nor Disable. This match has a value: with arms that return, a step takes longer (docs/DECISIONS.md).
 fn by_phase(s: State, e: Event, f: OpenFrame) -> Stepped
     ensures { λ r. ⌜ r ≡ done (inState (s .phase) f e s) ⌝ }
 {
     let phase = s.phase;
     match phase {
-        Phase::Xl0 => return at_0(s, e, f),
-        Phase::Xl1 => return at_1(s, e, f),
-        Phase::Xl2 => return at_2(s, e, f),
-        Phase::Xl3 => return at_3(s, e, f),
-        Phase::Xl4 | Phase::Xl9 => return at_4_and_9(s, e, f),
-        Phase::Xl5 => return at_5(s, e, f),
-        Phase::Xl6 => return at_6(s, e, f),
-        Phase::Xl7 => return at_7(s, e, f),
-        Phase::Xl8 => return at_8(s, e, f),
-        Phase::Xl10 => return surprised(s),
-    }
-}
-
-fn break_in_1(s: State, b: BreakEvent) -> Stepped
-    ensures { λ r. ⌜ r ≡ done (onBreak Phase.Xl1 b s) ⌝ }
-{
-    match b {
-        BreakEvent::Received => return goes(s, Phase::Xl9),
-        _ => return surprised(s),
-    }
-}
-
-// XL5's row is the same.
-fn break_in_2_and_5(s: State, b: BreakEvent) -> Stepped
-    ensures { λ r. ⌜ r ≡ done (onBreak Phase.Xl2 b s) ⌝ }
-{
-    match b {
-        BreakEvent::Received => return stays(breaking(s)),
-        _ => return surprised(s),
-    }
-}
-
-// XL3, XL6, XL7 and XL8 have the same rows.
-fn break_joined(s: State, b: BreakEvent) -> Stepped
-    ensures { λ r. ⌜ r ≡ done (onBreak Phase.Xl3 b s) ⌝ }
-{
-    match b {
-        BreakEvent::Received => return breaks_off(s),
-        BreakEvent::Routed => return goes(s, Phase::Xl10),
-        BreakEvent::Timeout => return surprised(s),
-    }
-}
-
-fn break_in_10(s: State, b: BreakEvent) -> Stepped
-    ensures { λ r. ⌜ r ≡ done (onBreak Phase.Xl10 b s) ⌝ }
-{
-    match b {
-        BreakEvent::Routed => return surprised(s),
-        _ => return goes(s, Phase::Xl0),
+        Phase::Xl0 => at_0(s, e, f),
+        Phase::Xl1 => at_1(s, e, f),
+        Phase::Xl2 => at_2(s, e, f),
+        Phase::Xl3 => at_3(s, e, f),
+        Phase::Xl4 | Phase::Xl9 => at_4_and_9(s, e, f),
+        Phase::Xl5 => at_5(s, e, f),
+        Phase::Xl6 => at_6(s, e, f),
+        Phase::Xl7 => at_7(s, e, f),
+        Phase::Xl8 => at_8(s, e, f),
+        Phase::Xl10 => surprised(s),
     }
 }
 
@@ -550,10 +504,23 @@ fn on_break(s: State, b: BreakEvent) -> Stepped
 {
     let phase = s.phase;
     match phase {
-        Phase::Xl1 => return break_in_1(s, b),
-        Phase::Xl2 | Phase::Xl5 => return break_in_2_and_5(s, b),
-        Phase::Xl3 | Phase::Xl6 | Phase::Xl7 | Phase::Xl8 => return break_joined(s, b),
-        Phase::Xl10 => return break_in_10(s, b),
+        Phase::Xl1 => match b {
+            BreakEvent::Received => return goes(s, Phase::Xl9),
+            _ => return surprised(s),
+        },
+        Phase::Xl2 | Phase::Xl5 => match b {
+            BreakEvent::Received => return stays(breaking(s)),
+            _ => return surprised(s),
+        },
+        Phase::Xl3 | Phase::Xl6 | Phase::Xl7 | Phase::Xl8 => match b {
+            BreakEvent::Received => return breaks_off(s),
+            BreakEvent::Routed => return goes(s, Phase::Xl10),
+            BreakEvent::Timeout => return surprised(s),
+        },
+        Phase::Xl10 => match b {
+            BreakEvent::Routed => return surprised(s),
+            _ => return goes(s, Phase::Xl0),
+        },
         _ => return surprised(s),
     }
 }

@@ -16,17 +16,11 @@ enum-told c = search needs
 at-0-requires : tie.Need-at-0-requires
 at-0-requires c κs = search needs
 
-returns : tie.Need-returns
-returns c = rw (c .at-0 .ensures, c .before .enum-told .given .1)
-
 enum-told-2 : tie.Need-enum-told-2
 enum-told-2 c = search needs
 
 at-1-requires : tie.Need-at-1-requires
 at-1-requires c κs = search needs
-
-returns-2 : tie.Need-returns-2
-returns-2 c = rw (c .at-1 .ensures, c .before .enum-told2 .given .1)
 
 enum-told-3 : tie.Need-enum-told-3
 enum-told-3 c = search needs
@@ -34,23 +28,14 @@ enum-told-3 c = search needs
 at-2-requires : tie.Need-at-2-requires
 at-2-requires c κs = search needs
 
-returns-3 : tie.Need-returns-3
-returns-3 c = rw (c .at-2 .ensures, c .before .enum-told3 .given .1)
-
 enum-told-4 : tie.Need-enum-told-4
 enum-told-4 c = search needs
 
 at-3-requires : tie.Need-at-3-requires
 at-3-requires c κs = search needs
 
-returns-4 : tie.Need-returns-4
-returns-4 c = rw (c .at-3 .ensures, c .before .enum-told4 .given .1)
-
 at-4-and-9-requires : tie.Need-at-4-and-9-requires
 at-4-and-9-requires c κs = search needs
-
-returns-5 : tie.Need-returns-5
-returns-5 c = c .at-4-and-9 .ensures ∙ among phase.enum (λ (p : Phase). done (inState Phase.Xl4 (c .before .before .args .f) (c .before .before .args .e) (c .before .before .args .s)) ≡ done (inState p (c .before .before .args .f) (c .before .before .args .e) (c .before .before .args .s))) (4 ∷ 9 ∷ []) (search depth 40) (c .before .before .args .s .phase) (c .before .match .keys5)
 
 enum-told-5 : tie.Need-enum-told-5
 enum-told-5 c = search needs
@@ -58,17 +43,11 @@ enum-told-5 c = search needs
 at-5-requires : tie.Need-at-5-requires
 at-5-requires c κs = search needs
 
-returns-6 : tie.Need-returns-6
-returns-6 c = rw (c .at-5 .ensures, c .before .enum-told5 .given .1)
-
 enum-told-6 : tie.Need-enum-told-6
 enum-told-6 c = search needs
 
 at-6-requires : tie.Need-at-6-requires
 at-6-requires c κs = search needs
-
-returns-7 : tie.Need-returns-7
-returns-7 c = rw (c .at-6 .ensures, c .before .enum-told6 .given .1)
 
 enum-told-7 : tie.Need-enum-told-7
 enum-told-7 c = search needs
@@ -76,23 +55,44 @@ enum-told-7 c = search needs
 at-7-requires : tie.Need-at-7-requires
 at-7-requires c κs = search needs
 
-returns-8 : tie.Need-returns-8
-returns-8 c = rw (c .at-7 .ensures, c .before .enum-told7 .given .1)
-
 enum-told-8 : tie.Need-enum-told-8
 enum-told-8 c = search needs
 
 at-8-requires : tie.Need-at-8-requires
 at-8-requires c κs = search needs
 
-returns-9 : tie.Need-returns-9
-returns-9 c = rw (c .at-8 .ensures, c .before .enum-told8 .given .1)
-
 enum-told-9 : tie.Need-enum-told-9
 enum-told-9 c = search needs
 
 surprised-requires : tie.Need-surprised-requires
 surprised-requires c κs = search needs
+
+returns : tie.Need-returns
+returns c = rw (c .at-0 .ensures, c .before .enum-told .given .1)
+
+returns-2 : tie.Need-returns-2
+returns-2 c = rw (c .at-1 .ensures, c .before .enum-told2 .given .1)
+
+returns-3 : tie.Need-returns-3
+returns-3 c = rw (c .at-2 .ensures, c .before .enum-told3 .given .1)
+
+returns-4 : tie.Need-returns-4
+returns-4 c = rw (c .at-3 .ensures, c .before .enum-told4 .given .1)
+
+returns-5 : tie.Need-returns-5
+returns-5 c = c .at-4-and-9 .ensures ∙ among phase.enum (λ (p : Phase). done (inState Phase.Xl4 (c .before .before .args .f) (c .before .before .args .e) (c .before .before .args .s)) ≡ done (inState p (c .before .before .args .f) (c .before .before .args .e) (c .before .before .args .s))) (4 ∷ 9 ∷ []) (search depth 40) (c .before .before .args .s .phase) (c .before .match .keys5)
+
+returns-6 : tie.Need-returns-6
+returns-6 c = rw (c .at-5 .ensures, c .before .enum-told5 .given .1)
+
+returns-7 : tie.Need-returns-7
+returns-7 c = rw (c .at-6 .ensures, c .before .enum-told6 .given .1)
+
+returns-8 : tie.Need-returns-8
+returns-8 c = rw (c .at-7 .ensures, c .before .enum-told7 .given .1)
+
+returns-9 : tie.Need-returns-9
+returns-9 c = rw (c .at-8 .ensures, c .before .enum-told8 .given .1)
 
 returns-10 : tie.Need-returns-10
 returns-10 c = rw (c .surprised .ensures, c .before .enum-told9 .given .1)
@@ -103,30 +103,30 @@ by-phase-spec =
     (tie.spec
     enum-told
     at-0-requires
-    returns
     enum-told-2
     at-1-requires
-    returns-2
     enum-told-3
     at-2-requires
-    returns-3
     enum-told-4
     at-3-requires
-    returns-4
     at-4-and-9-requires
-    returns-5
     enum-told-5
     at-5-requires
-    returns-6
     enum-told-6
     at-6-requires
-    returns-7
     enum-told-7
     at-7-requires
-    returns-8
     enum-told-8
     at-8-requires
-    returns-9
     enum-told-9
     surprised-requires
+    returns
+    returns-2
+    returns-3
+    returns-4
+    returns-5
+    returns-6
+    returns-7
+    returns-8
+    returns-9
     returns-10)

@@ -1,4 +1,4 @@
--- What its callees promise, put together. Assumes nothing.
+-- Each case is computed, with what its callees promise. Assumes nothing.
 use borrow.Author.Needs.{needs}
 use Rattle.xl_takes.proofs.remembers.Statement.{statement}
 use Rattle.xl_takes.proofs.remembers.Tie as tie
@@ -9,11 +9,33 @@ breaks-off-requires c κs = search needs
 returns : tie.Need-returns
 returns c = rw (c .breaks-off .ensures, c .before .if1 .taken)
 
-hears-in-6-requires : tie.Need-hears-in-6-requires
-hears-in-6-requires c κs = search needs
+enum-known-heard : tie.Need-enum-known-heard
+enum-known-heard c = search needs
+
+enum-told : tie.Need-enum-told
+enum-told c = search needs
+
+stays-requires : tie.Need-stays-requires
+stays-requires c κs = search needs
 
 returns-2 : tie.Need-returns-2
-returns-2 c = rw (c .hears-in-6 .ensures, c .before .if1 .left)
+returns-2 c = rw (c .stays .ensures, c .before .before .before .if1 .left, c .before .enum-told .given .1)
+
+crosses-requires : tie.Need-crosses-requires
+crosses-requires c κs = search needs
+
+returns-3 : tie.Need-returns-3
+returns-3 c = rw (c .crosses .ensures, c .before .before .before .before .if1 .left, c .before .before .heard .given .1)
 
 pub remembers-spec : {M : Type 1} → statement M
-remembers-spec = tie.close (tie.spec breaks-off-requires returns hears-in-6-requires returns-2)
+remembers-spec =
+    tie.close
+    (tie.spec
+    breaks-off-requires
+    returns
+    enum-known-heard
+    enum-told
+    stays-requires
+    returns-2
+    crosses-requires
+    returns-3)
