@@ -1,0 +1,67 @@
+-- Single rows of the table, each as what the table does with an event in a state: a row is looked up by computation, whatever else the
+-- link remembers. Assumes nothing.
+use Prim.Native.Nat.{ℕ}
+use mathlib.Core.Bool.{Bool, true, false, not, cond, _&&_, _||_}
+use mathlib.Core.List.{List, [], _∷_}
+use mathlib.Core.Path.{_≡_, refl, ap, _∙_}
+use borrow.Author.Tests.{eq-eqb, not-true}
+use Rattle.laws.specs.Order.{larger}
+use Rattle.laws.proofs.Bools.{never, and-true}
+use Rattle.laws.proofs.Order.{irrefl}
+use Rattle.laws.proofs.Tests.{itself, unless}
+use Rattle.open_frame.specs.Priority.{priorityOf, higherThan}
+use Rattle.open_frame.specs.declared.OpenFrame.{OpenFrame}
+use Rattle.xl_parts.specs.declared.Phase.{Phase}
+use Rattle.xl_parts.specs.declared.Reject.{Reject}
+use Rattle.xl_parts.specs.declared.Primitive.{Primitive}
+use Rattle.xl_parts.specs.declared.Message.{Message}
+use Rattle.xl_parts.specs.declared.Notice.{Notice}
+use Rattle.xl_parts.specs.declared.BreakEvent.{BreakEvent}
+use Rattle.xl_parts.specs.declared.BreakAction.{BreakAction}
+use Rattle.xl_parts.specs.declared.Event.{Event}
+use Rattle.xl_parts.specs.declared.Action.{Action}
+use Rattle.xl_parts.specs.declared.Seen.{Seen}
+use Rattle.xl_parts.specs.declared.Memory.{Memory}
+use Rattle.xl_parts.specs.declared.State.{State}
+use Rattle.xl_parts.specs.Parts.{nothing, holds, breaks, forgets, entered, entry, stay, first}
+use Rattle.xl_rows.specs.Table.{seen, returns, takes}
+use Rattle.xl_rows.proofs.Crossing.{unmoved}
+
+-- a link in the state p that remembers m, after n unexpected events
+abbrev pub link : Phase → Memory → ℕ → State
+link p m n = record { phase = p; memory = m; count = n }
+
+-- of three, the second is picked if one of the first two tests is passed, and the third
+picked : {A : Type 0} (a b t : Bool) (stays back on : A) → a || b ≡ true → t ≡ true → cond (not a && not b) stays (cond t back on) ≡ back
+picked true b t stays back on e p = ap (λ (u : Bool). cond u back on) p
+picked false true t stays back on e p = ap (λ (u : Bool). cond u back on) p
+picked false false t stays back on e p = absurd (never e)
+
+module _ (m : Memory) (n : ℕ) where
+  -- 01 XL.22: a link that is rejected in XL3 transmits that OPEN_REJECT and is idle, with nothing in memory but the count
+  pub rejected-is-idle : (f : OpenFrame) (k : Reject) → takes f (Event.Router (Message.OpenReject k)) (link Phase.Xl3 m n) ≡ record { state = link Phase.Xl0 nothing n; actions = Action.Transmit (Primitive.OpenReject k) ∷ [] }
+  rejected-is-idle f k = refl
+
+  -- BREAK received in the state p: SendBreak, and then what XL9 does on entry
+  abbrev pub SendsBreakFirst : Phase → Type 0
+  SendsBreakFirst p = (f : OpenFrame) → takes f (Event.Break BreakEvent.Received) (link p m n) ≡ record { state = link Phase.Xl9 m n; actions = Action.Break BreakAction.Send ∷ entry Phase.Xl9 }
+
+  -- 01 XL.7: it is so in each of the four states
+  pub send-break-first : SendsBreakFirst Phase.Xl3 × SendsBreakFirst Phase.Xl6 × SendsBreakFirst Phase.Xl7 × SendsBreakFirst Phase.Xl8
+  send-break-first = (λ f. refl, λ f. refl, λ f. refl, λ f. refl)
+
+  -- 01 XL.27: a BREAK that XL5 remembered is taken at Sent as XL6 takes one, behind what XL6 does on entry, and is forgotten with the OPEN
+  pub break-is-taken : (f : OpenFrame) → takes f (Event.Own Notice.Sent) (link Phase.Xl5 (breaks m) n) ≡ first (entry Phase.Xl6) (takes f (Event.Break BreakEvent.Received) (link Phase.Xl6 (forgets m) n))
+  break-is-taken f = refl
+
+  -- in XL6, where f was transmitted, the OPEN g comes
+  module _ (f g : OpenFrame) where
+    -- 01 XL.31: with no AIP seen, one of equal priority, its AWT and source those of f, does nothing
+    pub equal-does-nothing : m .aip ≡ Seen.Never → g .awt .0 ≡ f .awt .0 → g .head .source ≡ f .head .source → takes g (Event.Line Primitive.Open) (link Phase.Xl6 (holds f m) n) ≡ stay [] (link Phase.Xl6 (holds f m) n)
+    equal-does-nothing never-seen awt source =
+        unmoved (link Phase.Xl6 (holds f m) n) f g refl never-seen
+        (not-true (higherThan g f) (unless (itself (higherThan g f)) .1 (λ high. irrefl (priorityOf g) ((λ i. larger (priorityOf g) (awt i ∷ source i ∷ [])) ∙ high))))
+
+    -- 01 XL.32: one that backs off, and comes back on the path of f, goes to XL2 with BackoffReversePath and no SendOpen
+    pub reverse-sends-no-open : seen (m .aip) || higherThan g f ≡ true → g .head .destination ≡ f .head .source → g .head .rate ≡ f .head .rate → takes g (Event.Line Primitive.Open) (link Phase.Xl6 (holds f m) n) ≡ record { state = entered Phase.Xl2 (link Phase.Xl6 (holds g m) n); actions = Action.Send Message.BackoffReversePath ∷ [] }
+    reverse-sends-no-open moves destination rate = picked (seen (m .aip)) (higherThan g f) (returns g f) _ _ _ moves (and-true (eq-eqb _ _ destination) (eq-eqb _ _ rate))

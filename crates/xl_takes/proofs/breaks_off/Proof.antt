@@ -1,0 +1,16 @@
+-- What its callees promise, put together. Assumes nothing.
+use borrow.Author.Needs.{needs}
+use Rattle.xl_takes.proofs.breaks_off.Statement.{statement}
+use Rattle.xl_takes.proofs.breaks_off.Tie as tie
+
+goes-requires : tie.Need-goes-requires
+goes-requires c κs = search needs
+
+after-requires : tie.Need-after-requires
+after-requires c κs = search needs
+
+returns : tie.Need-returns
+returns c = rw (c .after .ensures, c .before .goes .ensures)
+
+pub breaks-off-spec : {M : Type 1} → statement M
+breaks-off-spec = tie.close (tie.spec goes-requires after-requires returns)

@@ -1,0 +1,16 @@
+-- What its callees promise, put together. Assumes nothing.
+use borrow.Author.Needs.{needs}
+use Rattle.xl_takes.proofs.opens.Statement.{statement}
+use Rattle.xl_takes.proofs.opens.Tie as tie
+
+holding-requires : tie.Need-holding-requires
+holding-requires c κs = search needs
+
+transmits-requires : tie.Need-transmits-requires
+transmits-requires c κs = search needs
+
+returns : tie.Need-returns
+returns c = rw (c .transmits .ensures, c .before .holding .ensures)
+
+pub opens-spec : {M : Type 1} → statement M
+opens-spec = tie.close (tie.spec holding-requires transmits-requires returns)
