@@ -12,7 +12,7 @@ use Rattle.port_parts.specs.Parts.{blank}
 use Rattle.port_parts.specs.declared.Port.{Port}
 use Rattle.port_parts.specs.declared.Request.{Request}
 use Rattle.refusals.specs.declared.Refusal.{Refusal}
-use Rattle.port_core.specs.Answers.{refusedBy}
+use Rattle.port_rows.specs.Answers.{refusedBy}
 use Rattle.port.specs.Calls.{leftStep, leftOf}
 
 -- a refusal changes no record

@@ -13,16 +13,16 @@ use Rattle.port_parts.specs.declared.Pick.{Pick}
 use Rattle.port_parts.specs.declared.Port.{Port}
 use Rattle.port_parts.specs.declared.Request.{Request}
 use Rattle.port_rules.specs.Rules.{rules}
-use Rattle.port_core.specs.Answers.{noPort, refusedBy}
-use Rattle.port_core.specs.Finds.{roomOf, keyOf}
-use Rattle.port_core.specs.Calls.{timed, phyAt, setupOf, submitOf, cancelOf, chooseOf, openedOf, openFailedOf, frameStatusOf, closedOf, enableOf, disableOf}
-use Rattle.port_core.specs.declared.Loss.{Loss}
-use Rattle.port_core.specs.declared.Done.{Done}
-use Rattle.port_core.specs.declared.Wish.{Wish}
-use Rattle.port_core.specs.declared.Withdrawn.{Withdrawn}
-use Rattle.port_core.specs.declared.Confirmed.{Confirmed}
-use Rattle.port_core.specs.declared.Failure.{Failure}
-use Rattle.port_core.specs.declared.Report.{Report}
+use Rattle.port_rows.specs.Answers.{noPort, refusedBy}
+use Rattle.port_rows.specs.Finds.{roomOf, keyOf}
+use Rattle.port_rows.specs.Calls.{timed, phyAt, setupOf, submitOf, cancelOf, chooseOf, openedOf, openFailedOf, frameStatusOf, closedOf, enableOf, disableOf}
+use Rattle.port_rows.specs.declared.Loss.{Loss}
+use Rattle.port_rows.specs.declared.Done.{Done}
+use Rattle.port_rows.specs.declared.Wish.{Wish}
+use Rattle.port_rows.specs.declared.Withdrawn.{Withdrawn}
+use Rattle.port_rows.specs.declared.Confirmed.{Confirmed}
+use Rattle.port_rows.specs.declared.Failure.{Failure}
+use Rattle.port_rows.specs.declared.Report.{Report}
 use Rattle.port.specs.declared.Stepped.{Stepped}
 use Rattle.port.specs.declared.Moment.{Moment}
 
