@@ -20,7 +20,8 @@ use Rattle.port_rows.specs.Calls.{phyAt}
 use Rattle.port_rows.specs.declared.Answer.{Answer}
 use Rattle.port_rows.specs.declared.Done.{Done}
 use Rattle.port_rows.specs.declared.Loss.{Loss}
-use Rattle.port.specs.Calls.{spread, leftOf}
+use Rattle.port_rows.specs.Records.{spread}
+use Rattle.port.specs.Calls.{leftOf}
 use Rattle.port.proofs.Begins.{left-here, left-there}
 use Rattle.port_kept.proofs.Holds.{Dated}
 use Rattle.port_kept.proofs.Links.{On, Linked}

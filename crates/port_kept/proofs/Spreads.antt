@@ -16,7 +16,7 @@ use Rattle.port_rules.specs.Kept.{Free, Present, SameKey, SameNexus, SameTimer,
 use Rattle.port_rows.specs.Answers.{lossBy}
 use Rattle.port_rows.specs.Calls.{timed}
 use Rattle.port_rows.specs.declared.Loss.{Loss}
-use Rattle.port.specs.Calls.{spread}
+use Rattle.port_rows.specs.Records.{spread}
 use Rattle.port_kept.proofs.Holds.{Dated, present-later, present-timed}
 
 -- ---- requests are apart both ways round

@@ -23,7 +23,8 @@ use Rattle.port_rows.specs.declared.Key.{Key}
 use Rattle.port_rows.specs.declared.Loss.{Loss}
 use Rattle.port_rows.specs.declared.Word.{Word}
 use Rattle.port_rows.specs.declared.Word.the-variants.{Taken, Submitted, Nothing, Send, Open, Close, StopArb, Retried, Waiting, CancelAcknowledged, Ended, NexusLoss, ConnectionLost, Status, Refused}
-use Rattle.port.specs.Calls.{spread, leftOf}
+use Rattle.port_rows.specs.Records.{spread}
+use Rattle.port.specs.Calls.{leftOf}
 use Rattle.port.specs.Grounds.{HasKey}
 use Rattle.port.specs.History.{State, Call, doneOf, steppedBy, isRefused, isLast, leave, run, Entry, entriesOf, history}
 use Rattle.port.proofs.Begins.{left-here, left-there}
