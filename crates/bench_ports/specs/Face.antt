@@ -6,9 +6,9 @@ use Rattle.refusals.specs.Refusals.{numberOf}
 use Rattle.port_parts.specs.declared.Reason.{Reason}
 use Rattle.port_parts.specs.declared.Reason.the-variants.{NoDestination, BadDestination, WrongDestination, LinkRateNotSupported, ProtocolNotSupported, PathwayBlocked, StpResourcesBusy, Retry, OpenTimeOut, BreakReceived, Other}
 use Rattle.port_parts.specs.declared.Request.{Request}
-use Rattle.port_core.specs.declared.Done.{Done}
-use Rattle.port_core.specs.declared.Word.{Word}
-use Rattle.port_core.specs.declared.Word.the-variants.{Taken, Submitted, Nothing, Send, Open, Close, StopArb, Retried, Waiting, CancelAcknowledged, Ended, NexusLoss, ConnectionLost, Status, Refused}
+use Rattle.port_rows.specs.declared.Done.{Done}
+use Rattle.port_rows.specs.declared.Word.{Word}
+use Rattle.port_rows.specs.declared.Word.the-variants.{Taken, Submitted, Nothing, Send, Open, Close, StopArb, Retried, Waiting, CancelAcknowledged, Ended, NexusLoss, ConnectionLost, Status, Refused}
 use Rattle.port.specs.Calls.{on32, steppedOf, leftOf}
 use Rattle.port.specs.declared.Stepped.{Stepped}
 use Rattle.bench_ports.specs.declared.Reply.{Reply}

@@ -6,15 +6,15 @@ ghost use Rattle.bench_ports.specs.Face.{wordOf, detailOf, whyOf, replyO
 use open_frame::OpenFrame;
 use port::Moment;
 use port::Stepped;
-use port_core::Confirmed;
-use port_core::Failure;
-use port_core::Report;
-use port_core::Wish;
-use port_core::Withdrawn;
-use port_core::Word;
 use port_parts::Port;
 use port_parts::Reason;
 use port_parts::Request;
+use port_rows::Confirmed;
+use port_rows::Failure;
+use port_rows::Report;
+use port_rows::Wish;
+use port_rows::Withdrawn;
+use port_rows::Word;
 
 // A call's answer and the port after it.
 #[repr(C)]

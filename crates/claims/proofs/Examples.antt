@@ -15,7 +15,7 @@ use Rattle.transfer.proofs.Examples.{p10 as listing-is, p11 as sixteen}
 use Rattle.port_parts.specs.declared.Reason.{Reason}
 use Rattle.port_parts.specs.declared.Request.{Request}
 use Rattle.port_parts.specs.declared.Stamp.{Stamp}
-use Rattle.port_core.specs.Calls.{again}
+use Rattle.port_rows.specs.Calls.{again}
 use Rattle.runs.specs.Output.{outputOf}
 use Rattle.runs.specs.Listing.{listed as listed-bytes, printed}
 use Rattle.runs.proofs.Listing.{listing as text-is}

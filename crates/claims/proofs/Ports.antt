@@ -26,9 +26,9 @@ use Rattle.port_parts.proofs.Timers.{runs-on}
 use Rattle.port_rules.specs.Rules.{rules}
 use Rattle.port_rules.specs.Kept.{Kept, InRange}
 use Rattle.port_rules.proofs.Facts.{rules-say}
-use Rattle.port_core.specs.Answers.{fresh, refusedBy}
-use Rattle.port_core.specs.Calls.{bare}
-use Rattle.port_core.specs.declared.Word.the-variants.{Taken, Refused}
+use Rattle.port_rows.specs.Answers.{fresh, refusedBy}
+use Rattle.port_rows.specs.Calls.{bare}
+use Rattle.port_rows.specs.declared.Word.the-variants.{Taken, Refused}
 use Rattle.port.specs.Calls.{leftOf, Called, pickAt}
 use Rattle.port.specs.Chooses.{Tells}
 use Rattle.port.specs.Grounds.{groundsOf}

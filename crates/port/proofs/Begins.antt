@@ -14,11 +14,12 @@ use Rattle.port_parts.specs.Parts.{off, noPhy, blank}
 use Rattle.port_parts.specs.declared.Phy.{Phy}
 use Rattle.port_parts.specs.declared.Request.{Request}
 use Rattle.port_rules.specs.Kept.{InRange, MustName, PhyKept, RequestKept, Kept}
-use Rattle.port_core.specs.Answers.{fresh}
-use Rattle.port_core.specs.Calls.{bare}
-use Rattle.port_core.specs.declared.Done.{Done}
-use Rattle.port_core.specs.declared.Word.the-variants.{Taken}
-use Rattle.port.specs.Calls.{spread, leftStep, leftOf}
+use Rattle.port_rows.specs.Answers.{fresh}
+use Rattle.port_rows.specs.Calls.{bare}
+use Rattle.port_rows.specs.declared.Done.{Done}
+use Rattle.port_rows.specs.declared.Word.the-variants.{Taken}
+use Rattle.port_rows.specs.Records.{spread, leftStep}
+use Rattle.port.specs.Calls.{leftOf}
 
 -- what a call leaves at each place
 pub left-at : (l : List Request) (d : Done) (i : ℕ) → length l ≡ 32 → i < 32 → getD (leftOf l d) i blank ≡ leftStep (getD l i blank) i d

@@ -42,7 +42,7 @@ use denote.Triple.Call.{calls-at}
 use denote.Triple.Clauses.{Clauses, Ended, ensured, lasts, closing}
 use denote.Triple.Walked.{says, Stays, gave-slice, stay-dropped, walkOf, goes-gave-slice, goes-dropped, Walks, ends-at, walked, walk-meets}
 use denote.Exit.{yes}
-use Rattle.port_core.specs.declared.Done.{Done}
+use Rattle.port_rows.specs.declared.Done.{Done}
 use Rattle.port.specs.declared.Stepped.{Stepped}
 use Rattle.port_parts.specs.declared.Request.{Request}
 use Rattle.port_parts.specs.Parts.{blank}

@@ -13,11 +13,11 @@ use Rattle.port_parts.specs.declared.Pick.{Pick}
 use Rattle.port_parts.specs.declared.Port.{Port}
 use Rattle.port_parts.specs.declared.Request.{Request}
 use Rattle.port_rules.specs.Rules.{rules}
-use Rattle.port_core.specs.Answers.{refusedBy}
-use Rattle.port_core.specs.Calls.{sent, opening, closing, idle, chosen, chooseCauses, chooseOf}
-use Rattle.port_core.specs.declared.Answer.{Answer}
-use Rattle.port_core.specs.declared.Done.{Done}
-use Rattle.port_core.specs.declared.Word.the-variants.{Nothing, Send, Open, Close}
+use Rattle.port_rows.specs.Answers.{refusedBy}
+use Rattle.port_rows.specs.Calls.{sent, opening, closing, idle, chosen, chooseCauses, chooseOf}
+use Rattle.port_rows.specs.declared.Answer.{Answer}
+use Rattle.port_rows.specs.declared.Done.{Done}
+use Rattle.port_rows.specs.declared.Word.the-variants.{Nothing, Send, Open, Close}
 use Rattle.port.specs.Calls.{pickAt, steppedOf}
 use Rattle.port.specs.Chooses.{wordFor, Tells}
 use Rattle.port.specs.History.{State, choose, doneOf, shortOf, steppedBy, isRefused}

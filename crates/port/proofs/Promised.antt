@@ -12,8 +12,9 @@ use Rattle.port_parts.specs.Parts.{blank}
 use Rattle.port_parts.specs.declared.Port.{Port}
 use Rattle.port_parts.specs.declared.Request.{Request}
 use Rattle.refusals.specs.declared.Refusal.{Refusal}
-use Rattle.port_core.specs.Answers.{refusedBy}
-use Rattle.port.specs.Calls.{leftStep, leftOf}
+use Rattle.port_rows.specs.Answers.{refusedBy}
+use Rattle.port_rows.specs.Records.{leftStep}
+use Rattle.port.specs.Calls.{leftOf}
 
 -- a refusal changes no record
 left-alone : (r : Request) (i : ℕ) (p : Port) (k : Refusal) → i < 32 → leftStep r i (refusedBy p k) ≡ r

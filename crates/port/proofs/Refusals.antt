@@ -32,14 +32,14 @@ use Rattle.port_parts.specs.declared.Request.{Request}
 use Rattle.port_rules.specs.Rules.{inRange, rules, sameKey, names, hasFrameOut}
 use Rattle.port_rules.specs.Kept.{Kept, Free, SameKey}
 use Rattle.port_rules.proofs.Facts.{range-says, rules-say}
-use Rattle.port_core.specs.Finds.{noRoom, roomStep, roomOf, hasKey, keyOf}
-use Rattle.port_core.specs.Calls.{phyAt, isJoined, isCancelled, closedPhy, marked, sent, opening, closing, idle, failedWord, timerAfter, bare, submitted, cancelled, chosen, connected, failed, framed, closedDone, disabledDone, submitCauses, cancelCauses, chooseCauses, phyCauses, failedCauses, setupOf, submitOf, cancelOf, chooseOf, openedOf, openFailedOf, frameStatusOf, closedOf, enableOf, disableOf}
-use Rattle.port_core.specs.Answers.{told, later, withPhy, fresh, idlePhy, unchanged, refusedBy}
-use Rattle.port_core.specs.declared.Done.{Done}
-use Rattle.port_core.specs.declared.Word.{Word}
-use Rattle.port_core.specs.declared.Word.the-variants.{Taken, Submitted, Send, Close, StopArb, Retried, Waiting, CancelAcknowledged, Ended, NexusLoss, ConnectionLost, Status, Refused}
-use Rattle.port_core.specs.declared.Key.{Key}
-use Rattle.port_core.specs.declared.Room.{Room}
+use Rattle.port_rows.specs.Finds.{noRoom, roomStep, roomOf, hasKey, keyOf}
+use Rattle.port_rows.specs.Calls.{phyAt, isJoined, isCancelled, closedPhy, marked, sent, opening, closing, idle, failedWord, timerAfter, bare, submitted, cancelled, chosen, connected, failed, framed, closedDone, disabledDone, submitCauses, cancelCauses, chooseCauses, phyCauses, failedCauses, setupOf, submitOf, cancelOf, chooseOf, openedOf, openFailedOf, frameStatusOf, closedOf, enableOf, disableOf}
+use Rattle.port_rows.specs.Answers.{told, later, withPhy, fresh, idlePhy, unchanged, refusedBy}
+use Rattle.port_rows.specs.declared.Done.{Done}
+use Rattle.port_rows.specs.declared.Word.{Word}
+use Rattle.port_rows.specs.declared.Word.the-variants.{Taken, Submitted, Send, Close, StopArb, Retried, Waiting, CancelAcknowledged, Ended, NexusLoss, ConnectionLost, Status, Refused}
+use Rattle.port_rows.specs.declared.Key.{Key}
+use Rattle.port_rows.specs.declared.Room.{Room}
 use Rattle.port.specs.History.{State, Call, doneOf, shortOf, steppedBy, isRefused, setup, submit, cancel, choose, opened, openFailed, frameStatus, closed, enable, disable}
 use Rattle.port.specs.Calls.{steppedOf, short, onPhy, pickAt}
 use Rattle.port.specs.Grounds.{Present, Full, HasKey, Absent, FrameOut, Joined, phyGrounds, groundsOf}

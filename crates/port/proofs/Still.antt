@@ -8,8 +8,8 @@ use lib.Dec.{T, eqb, ltb, ltb→lt, nltb→le}
 use borrow.Author.Tests.{ne-eqb}
 use Rattle.laws.proofs.Bools.{never}
 use Rattle.port_parts.specs.declared.Request.{Request}
-use Rattle.port_core.specs.declared.Done.{Done}
-use Rattle.port.specs.Calls.{leftStep}
+use Rattle.port_rows.specs.declared.Done.{Done}
+use Rattle.port_rows.specs.Records.{leftStep}
 use Rattle.port.specs.Walk.{changesAll, walkFrom, walkTo}
 
 -- a record that isn't the one stored, where nothing else changes

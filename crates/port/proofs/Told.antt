@@ -13,12 +13,12 @@ use Rattle.port_parts.specs.declared.Pick.{Pick}
 use Rattle.port_parts.specs.declared.Port.{Port}
 use Rattle.port_parts.specs.declared.Request.{Request}
 use Rattle.port_rules.specs.Rules.{portRule, requestRule, apartFrom, againstOf, rules}
-use Rattle.port_core.specs.Finds.{noRoom, roomStep, roomOf, keyStep, keyOf}
-use Rattle.port_core.specs.Calls.{phyAt, submitOf, cancelOf, chooseOf}
-use Rattle.port_core.specs.declared.Done.{Done}
-use Rattle.port_core.specs.declared.Room.{Room}
-use Rattle.port_core.specs.declared.Wish.{Wish}
-use Rattle.port_core.specs.declared.Withdrawn.{Withdrawn}
+use Rattle.port_rows.specs.Finds.{noRoom, roomStep, roomOf, keyStep, keyOf}
+use Rattle.port_rows.specs.Calls.{phyAt, submitOf, cancelOf, chooseOf}
+use Rattle.port_rows.specs.declared.Done.{Done}
+use Rattle.port_rows.specs.declared.Room.{Room}
+use Rattle.port_rows.specs.declared.Wish.{Wish}
+use Rattle.port_rows.specs.declared.Withdrawn.{Withdrawn}
 use Rattle.port.specs.Calls.{onPhy, submitCall, cancelCall, pickAt, chooseCall}
 use Rattle.port.specs.Scans.{deed, keeps, surveyed, roomStart, roomJoin, submitAsk, submitSlot, submitCore, keyStart, keyJoin, cancelAsk, cancelSlot, cancelCore, pickStart, pickJoin, chooseAsk, chooseSlot, chooseCore, namedStart, namedJoin}
 use Rattle.port.specs.declared.Moment.{Moment}

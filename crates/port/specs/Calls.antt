@@ -1,40 +1,32 @@
 -- Document 01, 'Port': each call over the list of 32 records that the caller lends, and what it promises. Assumes nothing.
 use Prim.Native.Nat.{ℕ}
 use mathlib.Core.Path.{_≡_}
-use mathlib.Core.Bool.{Bool, not, cond, _&&_}
+use mathlib.Core.Bool.{cond}
 use mathlib.Core.List.{List}
 use lib.Dec.{eqb}
 use lib.ListN.{length, getD}
 use Rattle.laws.specs.Folds.{mapTo}
 use Rattle.refusals.specs.declared.Refusal.{Refusal}
-use Rattle.port_parts.specs.Parts.{blank, isFree, isSsp}
+use Rattle.port_parts.specs.Parts.{blank}
 use Rattle.port_parts.specs.Choice.{chosenOf}
 use Rattle.port_parts.specs.declared.Pick.{Pick}
 use Rattle.port_parts.specs.declared.Port.{Port}
 use Rattle.port_parts.specs.declared.Request.{Request}
 use Rattle.port_rules.specs.Rules.{rules}
-use Rattle.port_core.specs.Answers.{noPort, refusedBy}
-use Rattle.port_core.specs.Finds.{roomOf, keyOf}
-use Rattle.port_core.specs.Calls.{timed, phyAt, setupOf, submitOf, cancelOf, chooseOf, openedOf, openFailedOf, frameStatusOf, closedOf, enableOf, disableOf}
-use Rattle.port_core.specs.declared.Loss.{Loss}
-use Rattle.port_core.specs.declared.Done.{Done}
-use Rattle.port_core.specs.declared.Wish.{Wish}
-use Rattle.port_core.specs.declared.Withdrawn.{Withdrawn}
-use Rattle.port_core.specs.declared.Confirmed.{Confirmed}
-use Rattle.port_core.specs.declared.Failure.{Failure}
-use Rattle.port_core.specs.declared.Report.{Report}
+use Rattle.port_rows.specs.Answers.{noPort, refusedBy}
+use Rattle.port_rows.specs.Finds.{roomOf, keyOf}
+use Rattle.port_rows.specs.Calls.{phyAt, setupOf, submitOf, cancelOf, chooseOf, openedOf, openFailedOf, frameStatusOf, closedOf, enableOf, disableOf}
+use Rattle.port_rows.specs.Records.{leftStep}
+use Rattle.port_rows.specs.declared.Done.{Done}
+use Rattle.port_rows.specs.declared.Wish.{Wish}
+use Rattle.port_rows.specs.declared.Withdrawn.{Withdrawn}
+use Rattle.port_rows.specs.declared.Confirmed.{Confirmed}
+use Rattle.port_rows.specs.declared.Failure.{Failure}
+use Rattle.port_rows.specs.declared.Report.{Report}
 use Rattle.port.specs.declared.Stepped.{Stepped}
 use Rattle.port.specs.declared.Moment.{Moment}
 
--- 01 PORT.26: The destination's last SSP request to leave stops it too.
--- every SSP request to the destination of a timer that changes gets it
-abbrev pub spread : Loss → Request → Request
-spread x r = cond (x .change && (not (isFree r) && (isSsp (r .head) && eqb (r .head .destination) (x .destination)))) (timed r (x .timer)) r
-
--- record i after a call
-abbrev pub leftStep : Request → ℕ → Done → Request
-leftStep r i d = cond (d .cleared) blank (cond (eqb i (d .answer .slot)) (d .entry) (spread (d .loss) r))
-
+-- the list after a call
 abbrev pub leftOf : List Request → Done → List Request
 leftOf l d = mapTo blank (λ r i. leftStep r i d) l 32
 

@@ -15,9 +15,9 @@ use Rattle.port_parts.specs.declared.Phy.{Phy}
 use Rattle.port_parts.specs.declared.Port.{Port}
 use Rattle.port_parts.specs.declared.Request.{Request}
 use Rattle.port_rules.specs.Kept.{InRange, Kept, Free, SameKey}
-use Rattle.port_core.specs.Finds.{keyOf}
-use Rattle.port_core.specs.Calls.{phyAt}
-use Rattle.port_core.specs.declared.Key.{Key}
+use Rattle.port_rows.specs.Finds.{keyOf}
+use Rattle.port_rows.specs.Calls.{phyAt}
+use Rattle.port_rows.specs.declared.Key.{Key}
 use Rattle.port.specs.History.{State, Call, setup, submit, cancel, choose, opened, openFailed, frameStatus, closed, enable, disable}
 
 -- a lent state breaks its rules

@@ -4,15 +4,15 @@ use mathlib.Core.Bool.{Bool, true, false, cond}
 use mathlib.Core.List.{List, [], _∷_, _++_}
 use Rattle.port_parts.specs.declared.Port.{Port}
 use Rattle.port_parts.specs.declared.Request.{Request}
-use Rattle.port_core.specs.declared.Answer.{Answer}
-use Rattle.port_core.specs.declared.Done.{Done}
-use Rattle.port_core.specs.declared.Word.{Word}
-use Rattle.port_core.specs.declared.Word.the-variants.{Taken, Submitted, Nothing, Send, Open, Close, StopArb, Retried, Waiting, CancelAcknowledged, Ended, NexusLoss, ConnectionLost, Status, Refused}
-use Rattle.port_core.specs.declared.Wish.{Wish}
-use Rattle.port_core.specs.declared.Withdrawn.{Withdrawn}
-use Rattle.port_core.specs.declared.Confirmed.{Confirmed}
-use Rattle.port_core.specs.declared.Failure.{Failure}
-use Rattle.port_core.specs.declared.Report.{Report}
+use Rattle.port_rows.specs.declared.Answer.{Answer}
+use Rattle.port_rows.specs.declared.Done.{Done}
+use Rattle.port_rows.specs.declared.Word.{Word}
+use Rattle.port_rows.specs.declared.Word.the-variants.{Taken, Submitted, Nothing, Send, Open, Close, StopArb, Retried, Waiting, CancelAcknowledged, Ended, NexusLoss, ConnectionLost, Status, Refused}
+use Rattle.port_rows.specs.declared.Wish.{Wish}
+use Rattle.port_rows.specs.declared.Withdrawn.{Withdrawn}
+use Rattle.port_rows.specs.declared.Confirmed.{Confirmed}
+use Rattle.port_rows.specs.declared.Failure.{Failure}
+use Rattle.port_rows.specs.declared.Report.{Report}
 use Rattle.port.specs.Calls.{leftOf, steppedOf, on32, short, shortSetup, setupCall, submitCall, cancelCall, chooseCall, openedCall, openFailedCall, frameStatusCall, closedCall, enableCall, disableCall}
 use Rattle.port.specs.declared.Moment.{Moment}
 use Rattle.port.specs.declared.Stepped.{Stepped}

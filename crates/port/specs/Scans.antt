@@ -13,14 +13,14 @@ use Rattle.port_parts.specs.declared.Port.{Port}
 use Rattle.port_parts.specs.declared.Request.{Request}
 use Rattle.port_rules.specs.Rules.{portRule, requestRule, apartFrom, againstOf}
 use Rattle.port_rules.specs.declared.Against.{Against}
-use Rattle.port_core.specs.Finds.{noRoom, roomStep, keyStep}
-use Rattle.port_core.specs.Calls.{phyAt, setupOf, submitOf, cancelOf, chooseOf, openedOf, openFailedOf, frameStatusOf, closedOf, enableOf, disableOf}
-use Rattle.port_core.specs.declared.Done.{Done}
-use Rattle.port_core.specs.declared.Wish.{Wish}
-use Rattle.port_core.specs.declared.Withdrawn.{Withdrawn}
-use Rattle.port_core.specs.declared.Confirmed.{Confirmed}
-use Rattle.port_core.specs.declared.Failure.{Failure}
-use Rattle.port_core.specs.declared.Report.{Report}
+use Rattle.port_rows.specs.Finds.{noRoom, roomStep, keyStep}
+use Rattle.port_rows.specs.Calls.{phyAt, setupOf, submitOf, cancelOf, chooseOf, openedOf, openFailedOf, frameStatusOf, closedOf, enableOf, disableOf}
+use Rattle.port_rows.specs.declared.Done.{Done}
+use Rattle.port_rows.specs.declared.Wish.{Wish}
+use Rattle.port_rows.specs.declared.Withdrawn.{Withdrawn}
+use Rattle.port_rows.specs.declared.Confirmed.{Confirmed}
+use Rattle.port_rows.specs.declared.Failure.{Failure}
+use Rattle.port_rows.specs.declared.Report.{Report}
 use Rattle.port.specs.declared.Moment.{Moment}
 use Rattle.port.specs.declared.Sought.{Sought}
 use Rattle.port.specs.declared.Named.{Named}

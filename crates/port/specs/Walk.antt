@@ -3,7 +3,7 @@
 use Prim.Native.Nat.{ℕ, suc}
 use mathlib.Core.Bool.{Bool, cond, _||_}
 use lib.Dec.{ltb}
-use Rattle.port_core.specs.declared.Done.{Done}
+use Rattle.port_rows.specs.declared.Done.{Done}
 
 abbrev pub changesAll : Done → Bool
 changesAll d = d .cleared || d .loss .change

@@ -5,25 +5,26 @@ ghost use lib.ListN.{length, getD};
 ghost use Rattle.port_parts.specs.Parts.{blank};
 ghost use Rattle.port_rules.specs.Rules.{againstOf, apartFrom};
 ghost use Rattle.port_rules.specs.Rules as rules;
-ghost use Rattle.port.specs.Calls.{leftStep, leftOf, steppedOf, shortSetup, Called, setupCall, submitCall, cancelCall, chooseCall, openedCall, openFailedCall, frameStatusCall, closedCall, enableCall, disableCall};
+ghost use Rattle.port_rows.specs.Records.{spread, leftStep};
+ghost use Rattle.port.specs.Calls.{leftOf, steppedOf, shortSetup, Called, setupCall, submitCall, cancelCall, chooseCall, openedCall, openFailedCall, frameStatusCall, closedCall, enableCall, disableCall};
 ghost use Rattle.port.specs.Calls as calls;
 ghost use Rattle.port.specs.Walk.{walkFrom, walkTo};
 ghost use Rattle.port.specs.Scans.{surveyed, apartStart, fromOf, setupAsk, setupSlot, setupCore, roomStart, roomJoin, submitAsk, submitSlot, submitCore, keyStart, keyJoin, cancelAsk, cancelSlot, cancelCore, pickStart, pickJoin, chooseAsk, chooseSlot, chooseCore, namedStart, namedJoin, confirmedAsk, failureAsk, reportAsk, confirmedSlot, failureSlot, reportSlot, openedCore, openFailedCore, frameStatusCore, closedCore, enableCore, disableCore};
 use open_frame::Head;
-use port_core::Answer;
-use port_core::Confirmed;
-use port_core::Done;
-use port_core::Failure;
-use port_core::Key;
-use port_core::Loss;
-use port_core::Report;
-use port_core::Room;
-use port_core::Wish;
-use port_core::Withdrawn;
 use port_parts::Asked;
 use port_parts::Pick;
 use port_parts::Port;
 use port_parts::Request;
+use port_rows::Answer;
+use port_rows::Confirmed;
+use port_rows::Done;
+use port_rows::Failure;
+use port_rows::Key;
+use port_rows::Loss;
+use port_rows::Report;
+use port_rows::Room;
+use port_rows::Wish;
+use port_rows::Withdrawn;
 use port_rules::Against;
 use refusals::Refusal;
 
@@ -284,7 +285,7 @@ fn answered(d: Done) -> Stepped
 
 // A changed loss timer, in every SSP request to its destination.
 fn spread(x: Loss, r: Request) -> Request
-    ensures { λ q. ⌜ q ≡ calls.spread x r ⌝ }
+    ensures { λ q. ⌜ q ≡ spread x r ⌝ }
 {
     let h = r.head;
     if x.change & (!(r.stage == 0) & ((h.protocol == 1) & (h.destination == x.destination))) {

@@ -5,10 +5,10 @@ use mathlib.Core.List.{List}
 use Rattle.refusals.specs.Causes.{Cause, refuse}
 use Rattle.refusals.proofs.Causes.{through}
 use Rattle.port_parts.specs.declared.Port.{Port}
-use Rattle.port_core.specs.Answers.{refusedBy}
-use Rattle.port_core.specs.Calls.{given}
-use Rattle.port_core.specs.declared.Checked.{Checked}
-use Rattle.port_core.specs.declared.Done.{Done}
+use Rattle.port_rows.specs.Answers.{refusedBy}
+use Rattle.port_rows.specs.Calls.{given}
+use Rattle.port_rows.specs.declared.Checked.{Checked}
+use Rattle.port_rows.specs.declared.Done.{Done}
 
 passes : (cs : List Cause) (p : Port) (d : Done) → given (refuse Checked.Refused cs Checked.Passed) p d ≡ refuse (refusedBy p) cs d
 passes cs p d = through (λ (c : Checked). given c p d) Checked.Refused cs Checked.Passed

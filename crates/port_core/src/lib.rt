@@ -5,11 +5,11 @@ ghost use mathlib.Core.Bool.{cond};
 ghost use Prim.Native.Nat.{_-_};
 ghost use lib.ListN.{length};
 ghost use Rattle.refusals.specs.Causes.{refuse};
-ghost use Rattle.port_core.specs.Answers.{noFrame, naming, nameless, later, withPhy, fresh, noPort, idlePhy, stagedPhy, joinedPhy, unchanged, lossBy, told, refusedBy};
-ghost use Rattle.port_core.specs.Finds.{noRoom, roomStep, keyStep};
-ghost use Rattle.port_core.specs.Calls.{phyAt, placed, marked, waited, timed, submitted, submitCauses, cancelCauses, chooseCauses, phyCauses, setupOf, submitOf, cancelOf, chooseOf, openedOf, openFailedOf, frameStatusOf, closedOf, enableOf, disableOf};
-ghost use Rattle.port_core.specs.Calls as calls;
-ghost use Rattle.port_core.specs.declared.Checked.{Checked};
+ghost use Rattle.port_rows.specs.Answers.{noFrame, naming, nameless, later, withPhy, fresh, noPort, idlePhy, stagedPhy, joinedPhy, unchanged, lossBy, told, refusedBy};
+ghost use Rattle.port_rows.specs.Finds.{noRoom, roomStep, keyStep};
+ghost use Rattle.port_rows.specs.Calls.{phyAt, placed, marked, waited, timed, submitted, submitCauses, cancelCauses, chooseCauses, phyCauses, setupOf, submitOf, cancelOf, chooseOf, openedOf, openFailedOf, frameStatusOf, closedOf, enableOf, disableOf};
+ghost use Rattle.port_rows.specs.Calls as calls;
+ghost use Rattle.port_rows.specs.declared.Checked.{Checked};
 use open_frame::Awt;
 use open_frame::Head;
 use open_frame::OpenFrame;
@@ -20,125 +20,19 @@ use port_parts::Port;
 use port_parts::Reason;
 use port_parts::Request;
 use port_parts::Stamp;
+use port_rows::Answer;
+use port_rows::Checked;
+use port_rows::Confirmed;
+use port_rows::Done;
+use port_rows::Failure;
+use port_rows::Key;
+use port_rows::Loss;
+use port_rows::Report;
+use port_rows::Room;
+use port_rows::Wish;
+use port_rows::Withdrawn;
+use port_rows::Word;
 use refusals::Refusal;
-
-// What a call answers, in document 01's words.
-pub enum Word {
-    // The call was taken, and says nothing of a request.
-    Taken,
-    // The request is in the list.
-    Submitted,
-    // No request and phy qualify.
-    Nothing,
-    // The frame goes.
-    Send,
-    Open,
-    Close,
-    StopArb,
-    // Open Failed; the request waits, and not less than 15 microseconds.
-    Retried,
-    // The phy was disabled; the request waits again.
-    Waiting,
-    // From here on, the last word on a request.
-    CancelAcknowledged,
-    // Open Failed with a reason that isn't retried.
-    Ended(Reason),
-    // I_T Nexus Loss.
-    NexusLoss,
-    ConnectionLost,
-    // The frame's status, as it came.
-    Status(u8),
-    Refused(Refusal),
-}
-
-pub struct Answer {
-    pub word: Word,
-    // The request that it names: its slot, 32 if it names none.
-    pub slot: u8,
-    // The phy that it names, 8 if it names none.
-    pub phy: u8,
-    // The request's head, and with it its key; an Open's whole frame.
-    pub frame: OpenFrame,
-}
-
-// A loss timer that changes.
-pub struct Loss {
-    pub change: bool,
-    // Every SSP request to it gets the timer.
-    pub destination: u64,
-    pub timer: Stamp,
-}
-
-// What a call leaves: the port, the answer, the record at the answer's slot, and a loss timer.
-pub struct Done {
-    pub port: Port,
-    pub answer: Answer,
-    pub entry: Request,
-    pub loss: Loss,
-    // Whether every record of the list is set free.
-    pub cleared: bool,
-}
-
-// What submit finds in the list.
-pub struct Room {
-    // The lowest free slot, 32 if there is none.
-    pub free: u8,
-    // Whether a request with its key is present.
-    pub same: bool,
-    // The loss timer of its destination.
-    pub loss: Stamp,
-}
-
-// What a submit gives.
-#[repr(C)]
-pub struct Wish {
-    pub head: Head,
-    pub now: u64,
-}
-
-#[repr(C)]
-pub struct Key {
-    pub destination: u64,
-    pub protocol: u8,
-    pub tag: u16,
-}
-
-// What a cancel gives.
-#[repr(C)]
-pub struct Withdrawn {
-    pub key: Key,
-    pub now: u64,
-}
-
-// What a call about a phy gives.
-#[repr(C)]
-pub struct Confirmed {
-    pub phy: u8,
-    pub now: u64,
-}
-
-// What an Open Failed gives.
-#[repr(C)]
-pub struct Failure {
-    pub phy: u8,
-    // The reason's number.
-    pub why: u8,
-    pub now: u64,
-}
-
-// What a frame status gives.
-#[repr(C)]
-pub struct Report {
-    pub phy: u8,
-    pub status: u8,
-    pub now: u64,
-}
-
-// Whether a call goes on.
-enum Checked {
-    Passed,
-    Refused(Refusal),
-}
 
 fn word_if(t: bool, a: Word, b: Word) -> Word
     ensures { λ r. ⌜ r ≡ cond t a b ⌝ }

@@ -14,9 +14,9 @@ use Rattle.port_parts.specs.declared.Phy.{Phy}
 use Rattle.port_parts.specs.declared.Port.{Port}
 use Rattle.port_parts.specs.declared.Request.{Request}
 use Rattle.port_rules.specs.Kept.{PhyKept, Free, Present, Kept}
-use Rattle.port_core.specs.Answers.{stagedPhy, unchanged}
-use Rattle.port_core.specs.Calls.{marked, phyAt, closedPhy, cancelled}
-use Rattle.port_core.specs.declared.Done.{Done}
+use Rattle.port_rows.specs.Answers.{stagedPhy, unchanged}
+use Rattle.port_rows.specs.Calls.{marked, phyAt, closedPhy, cancelled}
+use Rattle.port_rows.specs.declared.Done.{Done}
 use Rattle.port.specs.Calls.{leftOf}
 use Rattle.port_kept.proofs.Changes.{changed}
 use Rattle.port_kept.proofs.Enters.{free-enters, same-enters}

@@ -15,12 +15,13 @@ use Rattle.port_parts.specs.declared.Phy.{Phy}
 use Rattle.port_parts.specs.declared.Port.{Port}
 use Rattle.port_parts.specs.declared.Request.{Request}
 use Rattle.port_rules.specs.Kept.{Free, PhyKept, Paired, Present, RequestKept, Apart, Kept}
-use Rattle.port_core.specs.Answers.{withPhy}
-use Rattle.port_core.specs.Calls.{phyAt}
-use Rattle.port_core.specs.declared.Answer.{Answer}
-use Rattle.port_core.specs.declared.Done.{Done}
-use Rattle.port_core.specs.declared.Loss.{Loss}
-use Rattle.port.specs.Calls.{spread, leftOf}
+use Rattle.port_rows.specs.Answers.{withPhy}
+use Rattle.port_rows.specs.Calls.{phyAt}
+use Rattle.port_rows.specs.declared.Answer.{Answer}
+use Rattle.port_rows.specs.declared.Done.{Done}
+use Rattle.port_rows.specs.declared.Loss.{Loss}
+use Rattle.port_rows.specs.Records.{spread}
+use Rattle.port.specs.Calls.{leftOf}
 use Rattle.port.proofs.Begins.{left-here, left-there}
 use Rattle.port_kept.proofs.Holds.{Dated}
 use Rattle.port_kept.proofs.Links.{On, Linked}

@@ -17,10 +17,10 @@ use Rattle.port_parts.specs.declared.Port.{Port}
 use Rattle.port_parts.specs.declared.Request.{Request}
 use Rattle.port_parts.specs.declared.Stamp.{Stamp}
 use Rattle.port_rules.specs.Kept.{PhyKept, Free, Present, Kept}
-use Rattle.port_core.specs.Answers.{withPhy, openingPhy, stagedPhy, unchanged}
-use Rattle.port_core.specs.Calls.{placed, marked, waited, phyAt, firstOpen, sent, opening, closing, idle, chosen}
-use Rattle.port_core.specs.declared.Answer.{Answer}
-use Rattle.port_core.specs.declared.Done.{Done}
+use Rattle.port_rows.specs.Answers.{withPhy, openingPhy, stagedPhy, unchanged}
+use Rattle.port_rows.specs.Calls.{placed, marked, waited, phyAt, firstOpen, sent, opening, closing, idle, chosen}
+use Rattle.port_rows.specs.declared.Answer.{Answer}
+use Rattle.port_rows.specs.declared.Done.{Done}
 use Rattle.port.specs.Calls.{leftOf}
 use Rattle.port_kept.proofs.Changes.{stored, Entered, changed}
 use Rattle.port_kept.proofs.Enters.{same-enters}

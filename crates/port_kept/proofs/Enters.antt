@@ -15,8 +15,8 @@ use Rattle.port_parts.specs.declared.Port.{Port}
 use Rattle.port_parts.specs.declared.Request.{Request}
 use Rattle.port_parts.specs.declared.Stamp.{Stamp}
 use Rattle.port_rules.specs.Kept.{Free, Present, SameKey, SameNexus, SameTimer, Apart, Kept}
-use Rattle.port_core.specs.Answers.{unchanged, lossBy}
-use Rattle.port_core.specs.declared.Loss.{Loss}
+use Rattle.port_rows.specs.Answers.{unchanged, lossBy}
+use Rattle.port_rows.specs.declared.Loss.{Loss}
 use Rattle.port_kept.proofs.Spreads.{apart-back, Follows, own-apart}
 use Rattle.port_kept.proofs.Changes.{Entered}
 

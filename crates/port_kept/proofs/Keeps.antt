@@ -22,10 +22,10 @@ use Rattle.port_parts.proofs.Choices.{choose-right}
 use Rattle.port_rules.specs.Rules.{inRange, rules, hasFrameOut}
 use Rattle.port_rules.specs.Kept.{Free}
 use Rattle.port_rules.proofs.Facts.{range-says}
-use Rattle.port_core.specs.Calls.{phyAt, isCancelled, isJoined, cancelled, chosen, phyCauses}
-use Rattle.port_core.specs.Finds.{roomOf, hasKey, keyOf}
-use Rattle.port_core.specs.declared.Done.{Done}
-use Rattle.port_core.specs.declared.Key.{Key}
+use Rattle.port_rows.specs.Calls.{phyAt, isCancelled, isJoined, cancelled, chosen, phyCauses}
+use Rattle.port_rows.specs.Finds.{roomOf, hasKey, keyOf}
+use Rattle.port_rows.specs.declared.Done.{Done}
+use Rattle.port_rows.specs.declared.Key.{Key}
 use Rattle.port.specs.Calls.{pickAt}
 use Rattle.port.specs.History.{State, Call, setup, submit, cancel, choose, opened, openFailed, frameStatus, closed, enable, disable, steppedBy, isRefused, leave}
 use Rattle.port.proofs.Begins.{setup-kept}

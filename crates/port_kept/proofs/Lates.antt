@@ -11,9 +11,9 @@ use Rattle.port_parts.specs.declared.Phy.{Phy}
 use Rattle.port_parts.specs.declared.Port.{Port}
 use Rattle.port_parts.specs.declared.Request.{Request}
 use Rattle.port_rules.specs.Kept.{Kept}
-use Rattle.port_core.specs.Answers.{later, unchanged}
-use Rattle.port_core.specs.Calls.{phyAt}
-use Rattle.port_core.specs.declared.Answer.{Answer}
+use Rattle.port_rows.specs.Answers.{later, unchanged}
+use Rattle.port_rows.specs.Calls.{phyAt}
+use Rattle.port_rows.specs.declared.Answer.{Answer}
 use Rattle.port.specs.Calls.{leftOf}
 use Rattle.port_kept.proofs.Changes.{stored, Entered, changed}
 use Rattle.port_kept.proofs.Links.{aside}

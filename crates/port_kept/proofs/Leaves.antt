@@ -11,10 +11,10 @@ use Rattle.refusals.specs.declared.Refusal.{Refusal}
 use Rattle.refusals.proofs.Causes.{NoneGiven, by-causes}
 use Rattle.port_parts.specs.declared.Port.{Port}
 use Rattle.port_parts.specs.declared.Request.{Request}
-use Rattle.port_core.specs.Answers.{refusedBy}
-use Rattle.port_core.specs.declared.Done.{Done}
-use Rattle.port_core.specs.declared.Word.{Word}
-use Rattle.port_core.specs.declared.Word.the-variants.{Refused}
+use Rattle.port_rows.specs.Answers.{refusedBy}
+use Rattle.port_rows.specs.declared.Done.{Done}
+use Rattle.port_rows.specs.declared.Word.{Word}
+use Rattle.port_rows.specs.declared.Word.the-variants.{Refused}
 use Rattle.port.specs.Calls.{on32, leftOf, steppedOf, short, Called}
 use Rattle.port.specs.History.{State, Call, doneOf, shortOf, steppedBy, isRefused, leave, Entry, entriesOf}
 use Rattle.port.specs.declared.Stepped.{Stepped}

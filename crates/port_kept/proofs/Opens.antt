@@ -19,9 +19,9 @@ use Rattle.port_parts.specs.declared.Reason.{Reason}
 use Rattle.port_parts.specs.declared.Request.{Request}
 use Rattle.port_parts.specs.declared.Stamp.{Stamp}
 use Rattle.port_rules.specs.Kept.{MustName, PhyKept, Free, Present, Kept}
-use Rattle.port_core.specs.Answers.{idlePhy, joinedPhy, lossBy}
-use Rattle.port_core.specs.Calls.{timed, phyAt, isCancelled, connected, again, timerAfter, isAgain, failed}
-use Rattle.port_core.specs.declared.Done.{Done}
+use Rattle.port_rows.specs.Answers.{idlePhy, joinedPhy, lossBy}
+use Rattle.port_rows.specs.Calls.{timed, phyAt, isCancelled, connected, again, timerAfter, isAgain, failed}
+use Rattle.port_rows.specs.declared.Done.{Done}
 use Rattle.port.specs.Calls.{leftOf, onPhy}
 use Rattle.port_kept.proofs.Changes.{Entered, changed}
 use Rattle.port_kept.proofs.Enters.{free-enters, timed-enters}

@@ -14,11 +14,11 @@ use Rattle.port_parts.specs.declared.Phy.{Phy}
 use Rattle.port_parts.specs.declared.Port.{Port}
 use Rattle.port_parts.specs.declared.Request.{Request}
 use Rattle.port_rules.specs.Kept.{PhyKept, Present, Kept}
-use Rattle.port_core.specs.Answers.{withPhy, idlePhy, stagedPhy, unchanged}
-use Rattle.port_core.specs.Calls.{placed, phyAt, isCancelled, framed, closedDone, disabledDone}
-use Rattle.port_core.specs.declared.Answer.{Answer}
-use Rattle.port_core.specs.declared.Confirmed.{Confirmed}
-use Rattle.port_core.specs.declared.Loss.{Loss}
+use Rattle.port_rows.specs.Answers.{withPhy, idlePhy, stagedPhy, unchanged}
+use Rattle.port_rows.specs.Calls.{placed, phyAt, isCancelled, framed, closedDone, disabledDone}
+use Rattle.port_rows.specs.declared.Answer.{Answer}
+use Rattle.port_rows.specs.declared.Confirmed.{Confirmed}
+use Rattle.port_rows.specs.declared.Loss.{Loss}
 use Rattle.port.specs.Calls.{leftOf, onPhy}
 use Rattle.port_kept.proofs.Changes.{stored, Entered, changed}
 use Rattle.port_kept.proofs.Enters.{free-enters, same-enters}

@@ -12,7 +12,7 @@ use Rattle.refusals.specs.Causes.{Ground, First, here, later}
 use Rattle.refusals.specs.Refusals.{numberOf}
 use Rattle.refusals.specs.declared.Refusal.{Refusal}
 use Rattle.port_rules.specs.Kept.{Kept}
-use Rattle.port_core.specs.declared.Word.the-variants.{Refused}
+use Rattle.port_rows.specs.declared.Word.the-variants.{Refused}
 use Rattle.port.specs.Grounds.{groundsOf}
 use Rattle.port.specs.History.{State, Call, setup, submit, cancel, choose, opened, openFailed, frameStatus, closed, enable, disable, steppedBy, isRefused, leave, run}
 use Rattle.port.proofs.Refusals.{refused-exactly}

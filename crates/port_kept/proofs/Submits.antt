@@ -20,12 +20,12 @@ use Rattle.port_parts.specs.declared.Request.{Request}
 use Rattle.port_parts.specs.declared.Stamp.{Stamp}
 use Rattle.port_rules.specs.Kept.{Free, Present, SameNexus, SameTimer, Apart, Kept}
 use Rattle.port_rules.specs.Rules.{sameNexus}
-use Rattle.port_core.specs.Answers.{later, unchanged, told}
-use Rattle.port_core.specs.Calls.{submitted}
-use Rattle.port_core.specs.Finds.{noRoom, roomStep, roomOf}
-use Rattle.port_core.specs.declared.Room.{Room}
-use Rattle.port_core.specs.declared.Wish.{Wish}
-use Rattle.port_core.specs.declared.Word.the-variants.{Submitted}
+use Rattle.port_rows.specs.Answers.{later, unchanged, told}
+use Rattle.port_rows.specs.Calls.{submitted}
+use Rattle.port_rows.specs.Finds.{noRoom, roomStep, roomOf}
+use Rattle.port_rows.specs.declared.Room.{Room}
+use Rattle.port_rows.specs.declared.Wish.{Wish}
+use Rattle.port_rows.specs.declared.Word.the-variants.{Submitted}
 use Rattle.port.specs.Calls.{leftOf}
 use Rattle.port.specs.Grounds as grounds
 use Rattle.port_kept.proofs.Changes.{same-or}

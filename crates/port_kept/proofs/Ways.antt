@@ -13,14 +13,14 @@ use Rattle.port_parts.specs.declared.Pick.{Pick}
 use Rattle.port_parts.specs.declared.Port.{Port}
 use Rattle.port_parts.specs.declared.Reason.{Reason}
 use Rattle.port_parts.specs.declared.Request.{Request}
-use Rattle.port_core.specs.Answers.{later, withPhy, idlePhy, joinedPhy, stagedPhy, unchanged, lossBy, told}
-use Rattle.port_core.specs.Calls.{placed, marked, timed, phyAt, closedPhy, submitted, again, timerAfter, cancelled, sent, opening, closing, idle, chosen}
-use Rattle.port_core.specs.Finds.{roomOf}
-use Rattle.port_core.specs.declared.Confirmed.{Confirmed}
-use Rattle.port_core.specs.declared.Done.{Done}
-use Rattle.port_core.specs.declared.Report.{Report}
-use Rattle.port_core.specs.declared.Wish.{Wish}
-use Rattle.port_core.specs.declared.Word.the-variants.{Taken, Submitted, Send, Close, StopArb, Retried, Waiting, CancelAcknowledged, Ended, NexusLoss, ConnectionLost, Status}
+use Rattle.port_rows.specs.Answers.{later, withPhy, idlePhy, joinedPhy, stagedPhy, unchanged, lossBy, told}
+use Rattle.port_rows.specs.Calls.{placed, marked, timed, phyAt, closedPhy, submitted, again, timerAfter, cancelled, sent, opening, closing, idle, chosen}
+use Rattle.port_rows.specs.Finds.{roomOf}
+use Rattle.port_rows.specs.declared.Confirmed.{Confirmed}
+use Rattle.port_rows.specs.declared.Done.{Done}
+use Rattle.port_rows.specs.declared.Report.{Report}
+use Rattle.port_rows.specs.declared.Wish.{Wish}
+use Rattle.port_rows.specs.declared.Word.the-variants.{Taken, Submitted, Send, Close, StopArb, Retried, Waiting, CancelAcknowledged, Ended, NexusLoss, ConnectionLost, Status}
 use Rattle.port.specs.History.{State}
 
 abbrev pub submittedTo : State → Wish → Done

@@ -26,14 +26,14 @@ use Rattle.port_parts.specs.declared.Request.{Request}
 use Rattle.port_parts.proofs.Choices.{choose-right}
 use Rattle.port_rules.specs.Rules.{rules, names, hasFrameOut}
 use Rattle.port_rules.specs.Kept.{Free}
-use Rattle.port_core.specs.Calls.{placed, phyAt, isCancelled, isJoined, submitted, cancelled, sent, opening, closing, idle, chosen, connected, again, timerAfter, failed, framed, closedDone, disabledDone, submitCauses, cancelCauses, phyCauses, failedCauses}
-use Rattle.port_core.specs.Finds.{roomOf, keyOf}
-use Rattle.port_core.specs.declared.Confirmed.{Confirmed}
-use Rattle.port_core.specs.declared.Done.{Done}
-use Rattle.port_core.specs.declared.Failure.{Failure}
-use Rattle.port_core.specs.declared.Report.{Report}
-use Rattle.port_core.specs.declared.Wish.{Wish}
-use Rattle.port_core.specs.declared.Withdrawn.{Withdrawn}
+use Rattle.port_rows.specs.Calls.{placed, phyAt, isCancelled, isJoined, submitted, cancelled, sent, opening, closing, idle, chosen, connected, again, timerAfter, failed, framed, closedDone, disabledDone, submitCauses, cancelCauses, phyCauses, failedCauses}
+use Rattle.port_rows.specs.Finds.{roomOf, keyOf}
+use Rattle.port_rows.specs.declared.Confirmed.{Confirmed}
+use Rattle.port_rows.specs.declared.Done.{Done}
+use Rattle.port_rows.specs.declared.Failure.{Failure}
+use Rattle.port_rows.specs.declared.Report.{Report}
+use Rattle.port_rows.specs.declared.Wish.{Wish}
+use Rattle.port_rows.specs.declared.Withdrawn.{Withdrawn}
 use Rattle.port.specs.Calls.{leftOf, onPhy, pickAt}
 use Rattle.port.specs.History.{State, Call, setup, submit, cancel, choose, opened, openFailed, frameStatus, closed, enable, disable, doneOf, isRefused, isLast}
 use Rattle.port.specs.declared.Moment.{Moment}

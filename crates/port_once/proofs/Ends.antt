@@ -21,13 +21,13 @@ use Rattle.port_parts.specs.declared.Request.{Request}
 use Rattle.port_rules.specs.Rules.{rules}
 use Rattle.port_rules.specs.Kept.{Free, Present}
 use Rattle.port_rules.proofs.Facts.{rules-say}
-use Rattle.port_core.specs.Answers.{later, withPhy, unchanged, told, refusedBy}
-use Rattle.port_core.specs.Calls.{placed, phyAt, isCancelled, cancelled, disabledDone, cancelCauses, phyCauses, cancelOf, disableOf}
-use Rattle.port_core.specs.Finds.{hasKey, keyOf}
-use Rattle.port_core.specs.declared.Confirmed.{Confirmed}
-use Rattle.port_core.specs.declared.Done.{Done}
-use Rattle.port_core.specs.declared.Withdrawn.{Withdrawn}
-use Rattle.port_core.specs.declared.Word.the-variants.{Taken, Waiting, CancelAcknowledged}
+use Rattle.port_rows.specs.Answers.{later, withPhy, unchanged, told, refusedBy}
+use Rattle.port_rows.specs.Calls.{placed, phyAt, isCancelled, cancelled, disabledDone, cancelCauses, phyCauses, cancelOf, disableOf}
+use Rattle.port_rows.specs.Finds.{hasKey, keyOf}
+use Rattle.port_rows.specs.declared.Confirmed.{Confirmed}
+use Rattle.port_rows.specs.declared.Done.{Done}
+use Rattle.port_rows.specs.declared.Withdrawn.{Withdrawn}
+use Rattle.port_rows.specs.declared.Word.the-variants.{Taken, Waiting, CancelAcknowledged}
 use Rattle.port.specs.Calls.{leftOf, onPhy}
 use Rattle.port.specs.History.{State, Call, cancel, disable, doneOf, isRefused, isLast, leave, Entry}
 use Rattle.port.specs.declared.Stepped.{Stepped}

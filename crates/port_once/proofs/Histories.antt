@@ -17,10 +17,10 @@ use Rattle.port_parts.specs.Parts.{blank}
 use Rattle.port_parts.specs.declared.Port.{Port}
 use Rattle.port_parts.specs.declared.Request.{Request}
 use Rattle.port_rules.specs.Kept.{Free, Kept}
-use Rattle.port_core.specs.declared.Answer.{Answer}
-use Rattle.port_core.specs.declared.Key.{Key}
-use Rattle.port_core.specs.declared.Word.{Word}
-use Rattle.port_core.specs.declared.Word.the-variants.{Taken, Submitted, Nothing, Send, Open, Close, StopArb, Retried, Waiting, CancelAcknowledged, Ended, NexusLoss, ConnectionLost, Status, Refused}
+use Rattle.port_rows.specs.declared.Answer.{Answer}
+use Rattle.port_rows.specs.declared.Key.{Key}
+use Rattle.port_rows.specs.declared.Word.{Word}
+use Rattle.port_rows.specs.declared.Word.the-variants.{Taken, Submitted, Nothing, Send, Open, Close, StopArb, Retried, Waiting, CancelAcknowledged, Ended, NexusLoss, ConnectionLost, Status, Refused}
 use Rattle.port.specs.Grounds.{HasKey, Absent}
 use Rattle.port.specs.History.{Call, Entry, isLast, isRefused}
 use Rattle.port_kept.proofs.Changes.{same-or}

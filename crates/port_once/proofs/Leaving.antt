@@ -10,8 +10,8 @@ use lib.ListN.{getD}
 use Rattle.laws.proofs.Bools.{never}
 use Rattle.open_frame.specs.declared.Head.{Head}
 use Rattle.port_parts.specs.Parts.{blank}
-use Rattle.port_core.specs.declared.Answer.{Answer}
-use Rattle.port_core.specs.declared.Key.{Key}
+use Rattle.port_rows.specs.declared.Answer.{Answer}
+use Rattle.port_rows.specs.declared.Key.{Key}
 use Rattle.port.specs.Grounds.{HasKey, Absent}
 use Rattle.port.specs.History.{State, Call, steppedBy, leave, run, Entry, entriesOf, history}
 use Rattle.port_once.specs.Standing.{isSetup, isSubmitted, accepts, ends, speaks, submits, lastWords, Standing, gone, there, wrong, agrees, accepted, ended, spoken, standing, silent}

@@ -23,13 +23,13 @@ use Rattle.port_parts.specs.declared.Request.{Request}
 use Rattle.port_parts.proofs.Choices.{choose-right}
 use Rattle.port_rules.specs.Rules.{rules, names}
 use Rattle.port_rules.specs.Kept.{Free, Present}
-use Rattle.port_core.specs.Calls.{phyAt, isCancelled, cancelled, sent, opening, closing, idle, chosen, connected, timerAfter, failed, framed, closedDone, disabledDone, phyCauses}
-use Rattle.port_core.specs.Finds.{keyOf}
-use Rattle.port_core.specs.declared.Done.{Done}
-use Rattle.port_core.specs.declared.Confirmed.{Confirmed}
-use Rattle.port_core.specs.declared.Failure.{Failure}
-use Rattle.port_core.specs.declared.Report.{Report}
-use Rattle.port_core.specs.declared.Wish.{Wish}
+use Rattle.port_rows.specs.Calls.{phyAt, isCancelled, cancelled, sent, opening, closing, idle, chosen, connected, timerAfter, failed, framed, closedDone, disabledDone, phyCauses}
+use Rattle.port_rows.specs.Finds.{keyOf}
+use Rattle.port_rows.specs.declared.Done.{Done}
+use Rattle.port_rows.specs.declared.Confirmed.{Confirmed}
+use Rattle.port_rows.specs.declared.Failure.{Failure}
+use Rattle.port_rows.specs.declared.Report.{Report}
+use Rattle.port_rows.specs.declared.Wish.{Wish}
 use Rattle.port.specs.Calls.{onPhy, pickAt}
 use Rattle.port.specs.History.{State, Call, setup, submit, cancel, choose, opened, openFailed, frameStatus, closed, enable, disable, doneOf, isRefused, isLast}
 use Rattle.port.specs.declared.Moment.{Moment}

@@ -12,9 +12,10 @@ use borrow.Author.Tests.{eqb-true, eqb-false}
 use Rattle.port_parts.specs.Parts.{blank}
 use Rattle.port_parts.specs.declared.Request.{Request}
 use Rattle.port_rules.specs.Kept.{Free}
-use Rattle.port_core.specs.declared.Done.{Done}
-use Rattle.port_core.specs.declared.Loss.{Loss}
-use Rattle.port.specs.Calls.{spread, leftOf}
+use Rattle.port_rows.specs.declared.Done.{Done}
+use Rattle.port_rows.specs.declared.Loss.{Loss}
+use Rattle.port_rows.specs.Records.{spread}
+use Rattle.port.specs.Calls.{leftOf}
 use Rattle.port.specs.Grounds.{Absent}
 use Rattle.port.specs.History.{isLast}
 use Rattle.port.proofs.Begins.{left-here, left-there}

@@ -11,9 +11,9 @@ use borrow.Author.Tests.{eqb-true, eqb-false}
 use Rattle.port_parts.specs.Parts.{blank}
 use Rattle.port_parts.specs.declared.Request.{Request}
 use Rattle.port_rules.specs.Kept.{Free}
-use Rattle.port_core.specs.declared.Answer.{Answer}
-use Rattle.port_core.specs.declared.Done.{Done}
-use Rattle.port_core.specs.declared.Key.{Key}
+use Rattle.port_rows.specs.declared.Answer.{Answer}
+use Rattle.port_rows.specs.declared.Done.{Done}
+use Rattle.port_rows.specs.declared.Key.{Key}
 use Rattle.port.specs.Calls.{leftOf}
 use Rattle.port.specs.History.{State, Call, doneOf, isRefused, leave, run, Entry, entriesOf, history}
 use Rattle.port_kept.proofs.Leaves.{taken-state, taken-entry, by-step}

@@ -16,14 +16,15 @@ use Rattle.port_parts.specs.declared.Port.{Port}
 use Rattle.port_parts.specs.declared.Request.{Request}
 use Rattle.port_parts.specs.declared.Stamp.{Stamp}
 use Rattle.port_rules.specs.Kept.{Free, Kept}
-use Rattle.port_core.specs.Calls.{timed, isCancelled}
-use Rattle.port_core.specs.declared.Answer.{Answer}
-use Rattle.port_core.specs.declared.Done.{Done}
-use Rattle.port_core.specs.declared.Key.{Key}
-use Rattle.port_core.specs.declared.Loss.{Loss}
-use Rattle.port_core.specs.declared.Word.{Word}
-use Rattle.port_core.specs.declared.Word.the-variants.{Taken, Submitted, Nothing, Send, Open, Close, StopArb, Retried, Waiting, CancelAcknowledged, Ended, NexusLoss, ConnectionLost, Status, Refused}
-use Rattle.port.specs.Calls.{spread, leftOf}
+use Rattle.port_rows.specs.Calls.{timed, isCancelled}
+use Rattle.port_rows.specs.declared.Answer.{Answer}
+use Rattle.port_rows.specs.declared.Done.{Done}
+use Rattle.port_rows.specs.declared.Key.{Key}
+use Rattle.port_rows.specs.declared.Loss.{Loss}
+use Rattle.port_rows.specs.declared.Word.{Word}
+use Rattle.port_rows.specs.declared.Word.the-variants.{Taken, Submitted, Nothing, Send, Open, Close, StopArb, Retried, Waiting, CancelAcknowledged, Ended, NexusLoss, ConnectionLost, Status, Refused}
+use Rattle.port_rows.specs.Records.{spread}
+use Rattle.port.specs.Calls.{leftOf}
 use Rattle.port.specs.Grounds.{HasKey}
 use Rattle.port.specs.History.{State, Call, doneOf, steppedBy, isRefused, isLast, leave, run, Entry, entriesOf, history}
 use Rattle.port.proofs.Begins.{left-here, left-there}

@@ -14,11 +14,11 @@ use Rattle.port_parts.specs.Parts.{blank}
 use Rattle.port_parts.specs.declared.Request.{Request}
 use Rattle.port_rules.specs.Rules.{inRange}
 use Rattle.port_rules.proofs.Facts.{range-says}
-use Rattle.port_core.specs.Answers.{fresh, noPort, refusedBy}
-use Rattle.port_core.specs.Calls.{bare, setupOf}
-use Rattle.port_core.specs.declared.Done.{Done}
-use Rattle.port_core.specs.declared.Word.{Word}
-use Rattle.port_core.specs.declared.Word.the-variants.{Taken, Refused}
+use Rattle.port_rows.specs.Answers.{fresh, noPort, refusedBy}
+use Rattle.port_rows.specs.Calls.{bare, setupOf}
+use Rattle.port_rows.specs.declared.Done.{Done}
+use Rattle.port_rows.specs.declared.Word.{Word}
+use Rattle.port_rows.specs.declared.Word.the-variants.{Taken, Refused}
 use Rattle.port.specs.Calls.{leftOf, steppedOf}
 use Rattle.port.specs.History.{State, Call, setup, submit, cancel, choose, opened, openFailed, frameStatus, closed, enable, disable, doneOf, shortOf, steppedBy, isRefused, leave, Entry, entriesOf}
 use Rattle.port.specs.declared.Stepped.{Stepped}

@@ -1,9 +1,9 @@
 -- Document 01, 'Port': what happened to a request since its submit, read from calls and answers alone. Assumes nothing.
 use mathlib.Core.Bool.{Bool, true, false, cond, _&&_, _||_}
 use mathlib.Core.List.{List, [], _∷_}
-use Rattle.port_core.specs.declared.Key.{Key}
-use Rattle.port_core.specs.declared.Word.{Word}
-use Rattle.port_core.specs.declared.Word.the-variants.{Taken, Submitted, Nothing, Send, Open, Close, StopArb, Retried, Waiting, CancelAcknowledged, Ended, NexusLoss, ConnectionLost, Status, Refused}
+use Rattle.port_rows.specs.declared.Key.{Key}
+use Rattle.port_rows.specs.declared.Word.{Word}
+use Rattle.port_rows.specs.declared.Word.the-variants.{Taken, Submitted, Nothing, Send, Open, Close, StopArb, Retried, Waiting, CancelAcknowledged, Ended, NexusLoss, ConnectionLost, Status, Refused}
 use Rattle.port.specs.History.{Call, setup, submit, cancel, choose, opened, openFailed, frameStatus, closed, enable, disable, Entry}
 use Rattle.port_once.specs.Standing.{isSetup, accepts, speaks}
 

@@ -7,7 +7,7 @@ use denote.Triple.Spec.{tripleOf}
 use denote.Triple.Table.{entered, cited}
 use Rattle.port.specs.Calls.{short, closedCall}
 use Rattle.port.specs.Scans.{surveyed, namedStart, namedJoin, confirmedAsk, confirmedSlot, closedCore}
-use Rattle.port_core.specs.Calls.{closedOf}
+use Rattle.port_rows.specs.Calls.{closedOf}
 use Rattle.port.proofs.Told.{named-is}
 use Rattle.port.proofs.Arg.{number}
 use Rattle.port.proofs.Rec.{R, request, lawful}

@@ -7,7 +7,7 @@ use denote.Triple.Spec.{tripleOf}
 use denote.Triple.Table.{entered, cited}
 use Rattle.port.specs.Calls.{short, frameStatusCall}
 use Rattle.port.specs.Scans.{surveyed, namedStart, namedJoin, reportAsk, reportSlot, frameStatusCore}
-use Rattle.port_core.specs.Calls.{frameStatusOf}
+use Rattle.port_rows.specs.Calls.{frameStatusOf}
 use Rattle.port.proofs.Told.{named-is}
 use Rattle.port.proofs.Arg.{number}
 use Rattle.port.proofs.Rec.{R, request, lawful}

@@ -5,7 +5,8 @@ use contract.Running.{givenOf, tables, tablesOf}
 use denote.Memory.{pointee}
 use denote.Triple.Spec.{tripleOf}
 use denote.Triple.Table.{entered, cited}
-use Rattle.port.specs.Calls.{leftStep, steppedOf}
+use Rattle.port_rows.specs.Records.{leftStep}
+use Rattle.port.specs.Calls.{steppedOf}
 use Rattle.port.specs.Walk.{walkFrom, walkTo}
 use Rattle.port.proofs.Still.{ordered, within, before, behind}
 use Rattle.port.proofs.Rec.{R, lawful}

@@ -7,7 +7,7 @@ use denote.Triple.Spec.{tripleOf}
 use denote.Triple.Table.{entered, cited}
 use Rattle.port.specs.Calls.{short, openedCall}
 use Rattle.port.specs.Scans.{surveyed, namedStart, namedJoin, confirmedAsk, confirmedSlot, openedCore}
-use Rattle.port_core.specs.Calls.{openedOf}
+use Rattle.port_rows.specs.Calls.{openedOf}
 use Rattle.port.proofs.Told.{named-is}
 use Rattle.port.proofs.Arg.{number}
 use Rattle.port.proofs.Rec.{R, request, lawful}

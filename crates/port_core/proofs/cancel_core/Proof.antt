@@ -1,6 +1,6 @@
-use Rattle.port_core.specs.Calls.{cancelCauses, cancelled}
+use Rattle.port_rows.specs.Calls.{cancelCauses, cancelled}
 use Rattle.port_core.proofs.Checks.{settled}
-use Rattle.port_core.specs.Calls.{cancelOf}
+use Rattle.port_rows.specs.Calls.{cancelOf}
 use borrow.Author.Needs.{needs}
 use Rattle.port_core.proofs.cancel_core.Statement.{statement}
 use Rattle.port_core.proofs.cancel_core.Tie as tie

@@ -1,4 +1,4 @@
-use Rattle.port_core.specs.Calls.{cancelled}
+use Rattle.port_rows.specs.Calls.{cancelled}
 use borrow.Author.Tests.{eq-eqb, ne-eqb}
 use borrow.Author.Needs.{needs}
 use Rattle.port_core.proofs.cancelled.Statement.{statement}

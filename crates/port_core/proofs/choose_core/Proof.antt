@@ -1,6 +1,6 @@
-use Rattle.port_core.specs.Calls.{chooseCauses, chosen}
+use Rattle.port_rows.specs.Calls.{chooseCauses, chosen}
 use Rattle.port_core.proofs.Checks.{settled}
-use Rattle.port_core.specs.Calls.{chooseOf}
+use Rattle.port_rows.specs.Calls.{chooseOf}
 use borrow.Author.Needs.{needs}
 use Rattle.port_core.proofs.choose_core.Statement.{statement}
 use Rattle.port_core.proofs.choose_core.Tie as tie

@@ -1,7 +1,7 @@
 use mathlib.Core.Bool.{not}
-use Rattle.port_core.specs.Calls.{closedDone, isJoined, phyAt, phyCauses}
+use Rattle.port_rows.specs.Calls.{closedDone, isJoined, phyAt, phyCauses}
 use Rattle.port_core.proofs.Checks.{settled}
-use Rattle.port_core.specs.Calls.{closedOf}
+use Rattle.port_rows.specs.Calls.{closedOf}
 use borrow.Author.Needs.{needs}
 use Rattle.port_core.proofs.closed_core.Statement.{statement}
 use Rattle.port_core.proofs.closed_core.Tie as tie

@@ -1,7 +1,7 @@
 use Rattle.port_parts.specs.Parts.{isDisabled}
-use Rattle.port_core.specs.Calls.{disabledDone, phyAt, phyCauses}
+use Rattle.port_rows.specs.Calls.{disabledDone, phyAt, phyCauses}
 use Rattle.port_core.proofs.Checks.{settled}
-use Rattle.port_core.specs.Calls.{disableOf}
+use Rattle.port_rows.specs.Calls.{disableOf}
 use borrow.Author.Needs.{needs}
 use Rattle.port_core.proofs.disable_core.Statement.{statement}
 use Rattle.port_core.proofs.disable_core.Tie as tie

@@ -1,10 +1,10 @@
 use mathlib.Core.Bool.{not}
-use Rattle.port_core.specs.declared.Word.the-variants.{Taken}
+use Rattle.port_rows.specs.declared.Word.the-variants.{Taken}
 use Rattle.port_parts.specs.Parts.{isDisabled, blank}
-use Rattle.port_core.specs.Calls.{phyAt, phyCauses}
-use Rattle.port_core.specs.Answers.{idlePhy, told, unchanged, withPhy}
+use Rattle.port_rows.specs.Calls.{phyAt, phyCauses}
+use Rattle.port_rows.specs.Answers.{idlePhy, told, unchanged, withPhy}
 use Rattle.port_core.proofs.Checks.{settled}
-use Rattle.port_core.specs.Calls.{enableOf}
+use Rattle.port_rows.specs.Calls.{enableOf}
 use borrow.Author.Needs.{needs}
 use Rattle.port_core.proofs.enable_core.Statement.{statement}
 use Rattle.port_core.proofs.enable_core.Tie as tie

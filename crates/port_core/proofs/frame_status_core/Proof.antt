@@ -1,8 +1,8 @@
 use mathlib.Core.Bool.{not}
 use Rattle.port_rules.specs.Rules.{hasFrameOut}
-use Rattle.port_core.specs.Calls.{framed, phyAt, phyCauses}
+use Rattle.port_rows.specs.Calls.{framed, phyAt, phyCauses}
 use Rattle.port_core.proofs.Checks.{settled}
-use Rattle.port_core.specs.Calls.{frameStatusOf}
+use Rattle.port_rows.specs.Calls.{frameStatusOf}
 use borrow.Author.Needs.{needs}
 use Rattle.port_core.proofs.frame_status_core.Statement.{statement}
 use Rattle.port_core.proofs.frame_status_core.Tie as tie

@@ -1,9 +1,9 @@
 use mathlib.Core.Bool.{not}
 use Rattle.port_parts.specs.Reasons.{reasonOf}
 use Rattle.port_parts.specs.Parts.{isOpening}
-use Rattle.port_core.specs.Calls.{failed, failedCauses, phyAt}
+use Rattle.port_rows.specs.Calls.{failed, failedCauses, phyAt}
 use Rattle.port_core.proofs.Checks.{settled}
-use Rattle.port_core.specs.Calls.{openFailedOf}
+use Rattle.port_rows.specs.Calls.{openFailedOf}
 use borrow.Author.Needs.{needs}
 use Rattle.port_core.proofs.open_failed_core.Statement.{statement}
 use Rattle.port_core.proofs.open_failed_core.Tie as tie

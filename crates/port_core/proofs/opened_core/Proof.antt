@@ -1,8 +1,8 @@
 use mathlib.Core.Bool.{not}
 use Rattle.port_parts.specs.Parts.{isOpening}
-use Rattle.port_core.specs.Calls.{connected, phyAt, phyCauses}
+use Rattle.port_rows.specs.Calls.{connected, phyAt, phyCauses}
 use Rattle.port_core.proofs.Checks.{settled}
-use Rattle.port_core.specs.Calls.{openedOf}
+use Rattle.port_rows.specs.Calls.{openedOf}
 use borrow.Author.Needs.{needs}
 use Rattle.port_core.proofs.opened_core.Statement.{statement}
 use Rattle.port_core.proofs.opened_core.Tie as tie

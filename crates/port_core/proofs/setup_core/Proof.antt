@@ -1,4 +1,4 @@
-use Rattle.port_core.specs.Calls.{setupOf}
+use Rattle.port_rows.specs.Calls.{setupOf}
 use borrow.Author.Needs.{needs}
 use Rattle.port_core.proofs.setup_core.Statement.{statement}
 use Rattle.port_core.proofs.setup_core.Tie as tie

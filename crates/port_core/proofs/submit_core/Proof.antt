@@ -1,8 +1,8 @@
-use Rattle.port_core.specs.Answers.{told, later, unchanged}
-use Rattle.port_core.specs.declared.Word.the-variants.{Submitted}
-use Rattle.port_core.specs.Calls.{submitCauses, submitted}
+use Rattle.port_rows.specs.Answers.{told, later, unchanged}
+use Rattle.port_rows.specs.declared.Word.the-variants.{Submitted}
+use Rattle.port_rows.specs.Calls.{submitCauses, submitted}
 use Rattle.port_core.proofs.Checks.{settled}
-use Rattle.port_core.specs.Calls.{submitOf}
+use Rattle.port_rows.specs.Calls.{submitOf}
 use borrow.Author.Needs.{needs}
 use Rattle.port_core.proofs.submit_core.Statement.{statement}
 use Rattle.port_core.proofs.submit_core.Tie as tie

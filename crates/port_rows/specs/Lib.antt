@@ -2,3 +2,4 @@
 pub mod Answers
 pub mod Finds
 pub mod Calls
+pub mod Records

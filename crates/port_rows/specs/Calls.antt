@@ -22,18 +22,18 @@ use Rattle.port_parts.specs.declared.Reason.{Reason}
 use Rattle.port_parts.specs.declared.Request.{Request}
 use Rattle.port_parts.specs.declared.Stamp.{Stamp}
 use Rattle.port_rules.specs.Rules.{inRange, names, hasFrameOut}
-use Rattle.port_core.specs.Answers.{noFrame, nameless, later, withPhy, fresh, noPort, idlePhy, openingPhy, joinedPhy, stagedPhy, unchanged, lossBy, told, refusedBy}
-use Rattle.port_core.specs.declared.Word.{Word}
-use Rattle.port_core.specs.declared.Word.the-variants.{Taken, Submitted, Nothing, Send, Open, Close, StopArb, Retried, Waiting, CancelAcknowledged, Ended, NexusLoss, ConnectionLost, Status}
-use Rattle.port_core.specs.declared.Room.{Room}
-use Rattle.port_core.specs.declared.Wish.{Wish}
-use Rattle.port_core.specs.declared.Key.{Key}
-use Rattle.port_core.specs.declared.Withdrawn.{Withdrawn}
-use Rattle.port_core.specs.declared.Confirmed.{Confirmed}
-use Rattle.port_core.specs.declared.Failure.{Failure}
-use Rattle.port_core.specs.declared.Report.{Report}
-use Rattle.port_core.specs.declared.Done.{Done}
-use Rattle.port_core.specs.declared.Checked.{Checked}
+use Rattle.port_rows.specs.Answers.{noFrame, nameless, later, withPhy, fresh, noPort, idlePhy, openingPhy, joinedPhy, stagedPhy, unchanged, lossBy, told, refusedBy}
+use Rattle.port_rows.specs.declared.Word.{Word}
+use Rattle.port_rows.specs.declared.Word.the-variants.{Taken, Submitted, Nothing, Send, Open, Close, StopArb, Retried, Waiting, CancelAcknowledged, Ended, NexusLoss, ConnectionLost, Status}
+use Rattle.port_rows.specs.declared.Room.{Room}
+use Rattle.port_rows.specs.declared.Wish.{Wish}
+use Rattle.port_rows.specs.declared.Key.{Key}
+use Rattle.port_rows.specs.declared.Withdrawn.{Withdrawn}
+use Rattle.port_rows.specs.declared.Confirmed.{Confirmed}
+use Rattle.port_rows.specs.declared.Failure.{Failure}
+use Rattle.port_rows.specs.declared.Report.{Report}
+use Rattle.port_rows.specs.declared.Done.{Done}
+use Rattle.port_rows.specs.declared.Checked.{Checked}
 
 -- a record with these in place of its own
 abbrev pub placed : Request → ℕ → ℕ → Request

@@ -11,11 +11,11 @@ use Rattle.port_parts.specs.declared.Phy.{Phy}
 use Rattle.port_parts.specs.declared.Port.{Port}
 use Rattle.port_parts.specs.declared.Request.{Request}
 use Rattle.port_parts.specs.declared.Stamp.{Stamp}
-use Rattle.port_core.specs.declared.Word.{Word}
-use Rattle.port_core.specs.declared.Word.the-variants.{Refused}
-use Rattle.port_core.specs.declared.Answer.{Answer}
-use Rattle.port_core.specs.declared.Loss.{Loss}
-use Rattle.port_core.specs.declared.Done.{Done}
+use Rattle.port_rows.specs.declared.Word.{Word}
+use Rattle.port_rows.specs.declared.Word.the-variants.{Refused}
+use Rattle.port_rows.specs.declared.Answer.{Answer}
+use Rattle.port_rows.specs.declared.Loss.{Loss}
+use Rattle.port_rows.specs.declared.Done.{Done}
 
 -- ---- what an answer names
 

@@ -8,8 +8,8 @@ use Rattle.open_frame.specs.declared.Head.{Head}
 use Rattle.port_parts.specs.Parts.{none, blank, isFree}
 use Rattle.port_parts.specs.declared.Request.{Request}
 use Rattle.port_rules.specs.Rules.{sameKey, sameNexus}
-use Rattle.port_core.specs.declared.Room.{Room}
-use Rattle.port_core.specs.declared.Key.{Key}
+use Rattle.port_rows.specs.declared.Room.{Room}
+use Rattle.port_rows.specs.declared.Key.{Key}
 
 -- submit looks for the lowest free slot, the same key, and the loss timer of the destination
 abbrev pub noRoom : Room

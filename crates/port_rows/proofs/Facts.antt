@@ -1,0 +1,107 @@
+-- Sentences of document 01 about single calls follow from the calls' definitions: each cause is computed, then what is left and
+-- answered. Assumes nothing.
+use Prim.Native.Nat.{ℕ}
+use mathlib.Core.Bool.{true, false, _&&_}
+use mathlib.Core.Path.{_≡_}
+use lib.Dec.{eqb, leb, ltb}
+use Rattle.refusals.specs.declared.Refusal.{Refusal}
+use Rattle.open_frame.specs.Open.{headListed}
+use Rattle.port_parts.specs.Parts.{none, isOpening, blank, isFree, isSsp}
+use Rattle.port_parts.specs.Reasons.{reasonOf, isListed, isRetried, isBlocked}
+use Rattle.port_parts.specs.Timer.{isLost}
+use Rattle.port_parts.specs.declared.Port.{Port}
+use Rattle.port_parts.specs.declared.Reason.{Reason}
+use Rattle.port_parts.specs.declared.Request.{Request}
+use Rattle.port_rules.specs.Rules.{inRange}
+use Rattle.port_rows.specs.Calls.{phyAt, timerAfter, isAgain, isCancelled, setupOf, submitOf, openedOf, openFailedOf}
+use Rattle.port_rows.specs.Records.{spread, leftStep}
+use Rattle.port_rows.specs.declared.Word.the-variants.{Taken, Submitted, Send, Ended, NexusLoss, Refused}
+use Rattle.port_rows.specs.declared.Loss.{Loss}
+use Rattle.port_rows.specs.declared.Room.{Room}
+use Rattle.port_rows.specs.declared.Wish.{Wish}
+use Rattle.port_rows.specs.declared.Confirmed.{Confirmed}
+use Rattle.port_rows.specs.declared.Failure.{Failure}
+
+-- 01 PORT.2: a setup in range is taken, and every record is set free
+setup-taken : (count loss : ℕ) → inRange count loss ≡ true → (setupOf count loss .answer .word ≡ Taken) × (setupOf count loss .cleared ≡ true)
+unfolding setupOf
+setup-taken count loss range = (rw range, rw range)
+
+-- 01 PORT.11: and each becomes all zeros
+setup-clears : (count loss i : ℕ) (r : Request) → inRange count loss ≡ true → leftStep r i (setupOf count loss) ≡ blank
+unfolding setupOf
+setup-clears count loss i r range = rw range
+
+-- a loss timer that changes, at a record of an SSP request to its destination
+module _ (x : Loss) (r : Request) (changes : x .change ≡ true) (ssp : isSsp (r .head) ≡ true) (there : eqb (r .head .destination) (x .destination) ≡ true) where
+  -- 01 PORT.26: a record that is free gets none, so that no timer outlives the last request
+  free-stays : isFree r ≡ true → spread x r ≡ r
+  free-stays free = rw (changes, ssp, there, free)
+
+  -- 01 PORT.10: a request that is present gets the one timer
+  present-gets : isFree r ≡ false → spread x r .loss ≡ x .timer
+  present-gets taken = rw (changes, ssp, there, taken)
+
+-- a submit of a listed head at a time that isn't past, to a state that keeps its rules
+module _ (p : Port) (v : Room) (x : Wish) (listed : headListed (x .head) ≡ true) (due : ltb (x .now) (p .last) ≡ false) where
+  -- 01 REFUSAL.9: a request that is present is refused as present, whether or not the list is full
+  present : v .same ≡ true → submitOf p true v x .answer .word ≡ Refused Refusal.Present
+  unfolding submitOf
+  present same = rw (listed, due, same)
+
+  -- 01 REFUSAL.10: one that is absent is refused where the list is full
+  full : v .same ≡ false → leb 32 (v .free) ≡ true → submitOf p true v x .answer .word ≡ Refused Refusal.Full
+  unfolding submitOf
+  full absent none-free = rw (listed, due, absent, none-free)
+
+  -- 01 PROMISE.3: and taken where it isn't: not everything is refused
+  submitted : v .same ≡ false → leb 32 (v .free) ≡ false → submitOf p true v x .answer .word ≡ Submitted
+  unfolding submitOf
+  submitted absent free = rw (listed, due, absent, free)
+
+-- Opened, of a phy of the port at a time that isn't past, in a state that keeps its rules
+module _ (p : Port) (r : Request) (x : Confirmed) (own : ltb (x .phy) (p .count) ≡ true) (due : ltb (x .now) (p .last) ≡ false) where
+  -- 01 PORT.17: of an opening phy it is taken, and the frame goes
+  goes : phyAt p (x .phy) .stage ≡ 2 → isCancelled r ≡ false → openedOf p r true x .answer .word ≡ Send
+  unfolding openedOf
+  goes opening wanted = rw (wanted, own, due, opening)
+
+  -- 01 REFUSAL.14: it doesn't fit one that is not opening
+  unfit : isOpening (phyAt p (x .phy)) ≡ false → openedOf p r true x .answer .word ≡ Refused Refusal.Unfit
+  unfolding openedOf
+  unfit other = rw (own, due, other)
+
+-- Open Failed with a listed reason, of an opening phy of the port at a time that isn't past, in a state that keeps its rules
+module _ (p : Port) (r : Request) (x : Failure) (listed : isListed (reasonOf (x .why)) ≡ true) (own : ltb (x .phy) (p .count) ≡ true) (due : ltb (x .now) (p .last) ≡ false) (opening : isOpening (phyAt p (x .phy)) ≡ true) where
+  -- 01 PORT.18: a reason that isn't retried ends the request with that reason
+  ends : isCancelled r ≡ false → isRetried (reasonOf (x .why)) ≡ false → openFailedOf p r true x .answer .word ≡ Ended (reasonOf (x .why))
+  unfolding openFailedOf
+  ends wanted final = rw (wanted, final, listed, own, due, opening)
+
+  -- 01 PORT.25: a retried one, with a running timer at or past loss time after it, with I_T Nexus Loss
+  nexus-lost : isCancelled r ≡ false → isRetried (reasonOf (x .why)) ≡ true → isSsp (r .head) && isLost (timerAfter r (reasonOf (x .why)) (x .now)) (p .loss) (x .now) ≡ true → openFailedOf p r true x .answer .word ≡ NexusLoss
+  unfolding openFailedOf
+  nexus-lost wanted retried lost = rw (wanted, retried, lost, listed, own, due, opening)
+
+  -- and the request that is retried
+  module _ (again : isAgain p r (reasonOf (x .why)) (x .now) ≡ true) where
+    -- 01 PORT.19: Pathway Blocked keeps the wait running, since the first open stays
+    module _ (blocked : reasonOf (x .why) ≡ Reason.PathwayBlocked) where
+      runs-on : openFailedOf p r true x .entry .first ≡ r .first
+      unfolding openFailedOf
+      runs-on = rw (listed, own, due, opening, again, blocked)
+
+      -- 01 EXAMPLE.4: P9 PBC 255 blocked again: 255.
+      stays-255 : r .pbc .0 ≡ 255 → openFailedOf p r true x .entry .pbc .0 ≡ 255
+      unfolding openFailedOf
+      stays-255 most = rw (listed, own, due, opening, again, blocked, most)
+
+    -- 01 PORT.19: the other retries reset both
+    module _ (other : isBlocked (reasonOf (x .why)) ≡ false) where
+      wait-reset : openFailedOf p r true x .entry .first ≡ none
+      unfolding openFailedOf
+      wait-reset = rw (listed, own, due, opening, again, other)
+
+      count-reset : openFailedOf p r true x .entry .pbc .0 ≡ 0
+      unfolding openFailedOf
+      count-reset = rw (listed, own, due, opening, again, other)

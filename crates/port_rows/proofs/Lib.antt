@@ -1,0 +1,2 @@
+-- What the definitions of the calls say, in document 01's sentences.
+mod Facts
