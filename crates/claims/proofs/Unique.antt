@@ -199,16 +199,6 @@ use Rattle.port_core.proofs.enable_core.Kinds as port-enable-core-of
 use Rattle.port_core.proofs.enable_core.Reads as port-enable-core
 use Rattle.port_core.proofs.disable_core.Kinds as port-disable-core-of
 use Rattle.port_core.proofs.disable_core.Reads as port-disable-core
-use Rattle.port_parts.specs.declared.Port.{Port}
-use Rattle.port_parts.specs.declared.Request.{Request}
-use Rattle.port_rows.specs.declared.Wish.{Wish}
-use Rattle.port_rows.specs.declared.Withdrawn.{Withdrawn}
-use Rattle.port_rows.specs.declared.Confirmed.{Confirmed}
-use Rattle.port_rows.specs.declared.Failure.{Failure}
-use Rattle.port_rows.specs.declared.Report.{Report}
-use Rattle.port_rows.specs.declared.Done.{Done}
-use Rattle.port.specs.declared.Moment.{Moment}
-use Rattle.port.specs.declared.Stepped.{Stepped}
 use Rattle.port.specs.Calls.{short, shortSetup, Called, setupCall, submitCall, cancelCall, chooseCall, openedCall, openFailedCall, frameStatusCall, closedCall, enableCall, disableCall}
 use Rattle.port.proofs.setup as call-setup
 use Rattle.port.proofs.submit as call-submit
