@@ -34,6 +34,11 @@ fn text(s: &[u8]) {
     io::write_all(1, s);
 }
 
+fn sign(c: u8) {
+    let s = [c];
+    text(&s);
+}
+
 fn number(n: u8) {
     io::print_decimal(1, n as u64);
 }
@@ -131,33 +136,71 @@ fn arbitration(n: u8) -> Arbitration {
     }
 }
 
+fn primitive(n: u8, k: u8) -> Primitive {
+    match n {
+        0 => Primitive::Open,
+        1 => Primitive::OpenAccept,
+        2 => Primitive::OpenReject(reject(k)),
+        3 => Primitive::Aip(wait(k)),
+        _ => Primitive::Close,
+    }
+}
+
+fn message(n: u8, k: u8) -> Message {
+    match n {
+        5 => Message::SendOpen,
+        6 => Message::SendClose,
+        7 => Message::ArbStatus(wait(k)),
+        8 => Message::OpenAccept,
+        9 => Message::OpenReject(reject(k)),
+        10 => Message::BackoffRetry,
+        _ => Message::BackoffReversePath,
+    }
+}
+
+fn confirmation(n: u8, k: u8) -> Confirmation {
+    match n {
+        12 => Confirmation::ArbWon,
+        13 => Confirmation::ArbLost,
+        14 => Confirmation::ArbReject(denial(k)),
+        _ => Confirmation::Arbitrating(arbitration(k)),
+    }
+}
+
+fn notice(n: u8) -> Notice {
+    match n {
+        16 => Notice::PathTimer,
+        17 => Notice::Sent,
+        _ => Notice::Forwarded,
+    }
+}
+
+fn break_event(n: u8) -> BreakEvent {
+    match n {
+        19 => BreakEvent::Received,
+        20 => BreakEvent::Routed,
+        _ => BreakEvent::Timeout,
+    }
+}
+
 // The events, in the order of the cells; k is the number of a kind.
 fn event(n: u8, k: u8) -> Event {
-    match n {
-        0 => Event::Line(Primitive::Open),
-        1 => Event::Line(Primitive::OpenAccept),
-        2 => Event::Line(Primitive::OpenReject(reject(k))),
-        3 => Event::Line(Primitive::Aip(wait(k))),
-        4 => Event::Line(Primitive::Close),
-        5 => Event::Router(Message::SendOpen),
-        6 => Event::Router(Message::SendClose),
-        7 => Event::Router(Message::ArbStatus(wait(k))),
-        8 => Event::Router(Message::OpenAccept),
-        9 => Event::Router(Message::OpenReject(reject(k))),
-        10 => Event::Router(Message::BackoffRetry),
-        11 => Event::Router(Message::BackoffReversePath),
-        12 => Event::Manager(Confirmation::ArbWon),
-        13 => Event::Manager(Confirmation::ArbLost),
-        14 => Event::Manager(Confirmation::ArbReject(denial(k))),
-        15 => Event::Manager(Confirmation::Arbitrating(arbitration(k))),
-        16 => Event::Own(Notice::PathTimer),
-        17 => Event::Own(Notice::Sent),
-        18 => Event::Own(Notice::Forwarded),
-        19 => Event::Break(BreakEvent::Received),
-        20 => Event::Break(BreakEvent::Routed),
-        21 => Event::Break(BreakEvent::Timeout),
-        _ => Event::Disable,
+    if n < 5 {
+        return Event::Line(primitive(n, k));
     }
+    if n < 12 {
+        return Event::Router(message(n, k));
+    }
+    if n < 16 {
+        return Event::Manager(confirmation(n, k));
+    }
+    if n < 19 {
+        return Event::Own(notice(n));
+    }
+    if n < 22 {
+        return Event::Break(break_event(n));
+    }
+    Event::Disable
 }
 
 // How many kinds event n has.
@@ -224,26 +267,26 @@ fn seen_number(a: Seen) -> u8 {
     }
 }
 
-fn print_held(h: Held) {
+fn tag_sign(tag: u16) -> u8 {
+    match tag {
+        1 => b'h',
+        2 => b'e',
+        _ => b'o',
+    }
+}
+
+fn held_sign(h: Held) -> u8 {
     match h {
-        Held::Nothing => text(b"-"),
-        Held::Frame(f) => {
-            if f.head.tag == 1 {
-                text(b"h");
-            } else if f.head.tag == 2 {
-                text(b"e");
-            } else {
-                text(b"o");
-            }
-        }
+        Held::Nothing => b'-',
+        Held::Frame(f) => tag_sign(f.head.tag),
     }
 }
 
 fn print_flag(b: bool) {
     if b {
-        text(b"1");
+        sign(b'1');
     } else {
-        text(b"0");
+        sign(b'0');
     }
 }
 
@@ -252,10 +295,10 @@ fn print_memory(m: Memory) {
     let o = m.heard;
     let a = m.aip;
     let seen = seen_number(a);
-    print_held(h);
-    print_held(o);
+    sign(held_sign(h));
+    sign(held_sign(o));
     if seen == 9 {
-        text(b"-");
+        sign(b'-');
     } else {
         number(seen);
     }
@@ -265,9 +308,9 @@ fn print_memory(m: Memory) {
 }
 
 fn print_kind(n: u8) {
-    text(b"(");
+    sign(b'(');
     number(n);
-    text(b")");
+    sign(b')');
 }
 
 fn print_primitive(p: Primitive) {
@@ -311,39 +354,32 @@ fn print_break(b: BreakAction) {
     }
 }
 
-// An action, with a comma before it unless it is the first.
-fn print_action(a: Action, first: bool) {
+fn print_request(timeout: bool) {
+    text(b"RequestPath");
+    if timeout {
+        text(b"(timeout)");
+    }
+}
+
+fn print_done(a: Action) {
     match a {
         Action::None => {}
-        Action::Transmit(p) => {
-            if !first {
-                text(b",");
-            }
-            print_primitive(p);
-        }
-        Action::Send(m) => {
-            if !first {
-                text(b",");
-            }
-            print_message(m);
-        }
-        Action::RequestPath(timeout) => {
-            if !first {
-                text(b",");
-            }
-            if timeout {
-                text(b"RequestPath(timeout)");
-            } else {
-                text(b"RequestPath");
-            }
-        }
-        Action::Break(b) => {
-            if !first {
-                text(b",");
-            }
-            print_break(b);
-        }
+        Action::Transmit(p) => print_primitive(p),
+        Action::Send(m) => print_message(m),
+        Action::RequestPath(timeout) => print_request(timeout),
+        Action::Break(b) => print_break(b),
     }
+}
+
+// An action, with a comma before it unless it is the first.
+fn print_action(a: Action, first: bool) {
+    if is_none(a) {
+        return;
+    }
+    if !first {
+        sign(b',');
+    }
+    print_done(a);
 }
 
 fn print_actions(a: Actions) {
@@ -397,34 +433,56 @@ fn is_none(a: Action) -> bool {
     }
 }
 
-// The cell of a step that was taken in s.
+// Whether a cell shows no change.
+fn is_still(s: State, t: State, a: Actions) -> bool {
+    let first = a.first;
+    (state_number(s) == state_number(t)) & is_none(first)
+}
+
+fn print_change(t: State, a: Actions) {
+    let memory = t.memory;
+    let p = t.phase;
+    number(phase_number(p));
+    sign(b'/');
+    print_memory(memory);
+    sign(b'/');
+    print_actions(a);
+}
+
+// What a step from s that was not refused leaves and does.
+fn print_taken(s: State, t: State, a: Actions) {
+    if t.count != s.count {
+        sign(b'+');
+    }
+    if is_still(s, t, a) {
+        if t.count == s.count {
+            sign(b'=');
+        }
+        return;
+    }
+    print_change(t, a);
+}
+
+// The cell of a step that was taken in s, behind a tab.
 fn print_cell(s: State, r: Stepped) {
     let answer = r.answer;
-    let state = r.state;
-    let actions = r.actions;
-    let first = actions.first;
-    let memory = state.memory;
-    let p = state.phase;
     let refusal = refusal_number(answer);
+    sign(b'\t');
     if refusal != 0 {
         number(refusal);
         return;
     }
-    let still = (state_number(s) == state_number(state)) & is_none(first);
-    if state.count != s.count {
-        text(b"+");
-    }
-    if still {
-        if state.count == s.count {
-            text(b"=");
-        }
-        return;
-    }
-    number(phase_number(p));
-    text(b"/");
-    print_memory(memory);
-    text(b"/");
-    print_actions(actions);
+    let state = r.state;
+    let actions = r.actions;
+    print_taken(s, state, actions);
+}
+
+fn print_step(s: State, e: Event, f: OpenFrame) {
+    print_cell(s, xl::step(s, e, f));
+}
+
+fn print_received(s: State, bytes: &[u8]) {
+    print_cell(s, xl::receive(s, bytes));
 }
 
 fn status_sign(a: LinkStatus) -> u8 {
@@ -438,8 +496,7 @@ fn status_sign(a: LinkStatus) -> u8 {
 }
 
 fn print_status(s: State) {
-    let sign = [status_sign(xl::status(s))];
-    text(&sign);
+    sign(status_sign(xl::status(s)));
 }
 
 fn state(p: u8, m: Memory) -> State {
@@ -453,8 +510,7 @@ fn state(p: u8, m: Memory) -> State {
 // The cells of event n, of each kind.
 fn print_kinds(s: State, n: u8) {
     for k in 0..kinds(n) {
-        text(b"\t");
-        print_cell(s, xl::step(s, event(n, k), received()));
+        print_step(s, event(n, k), received());
     }
 }
 
@@ -462,14 +518,14 @@ fn print_kinds(s: State, n: u8) {
 fn print_line(p: u8, m: Memory) {
     let s = state(p, m);
     number(p);
-    text(b"\t");
+    sign(b'\t');
     print_memory(m);
-    text(b"\t");
+    sign(b'\t');
     print_status(s);
     for n in 0..23 {
         print_kinds(s, n);
     }
-    text(b"\n");
+    sign(b'\n');
 }
 
 // The memories of a state: whether a frame is held, whether an OPEN is remembered, the latest AIP, and three flags.
@@ -528,26 +584,30 @@ fn crossed(f: Held, aip: u8) -> Memory {
     }
 }
 
-// OPEN in XL6, then the same OPEN remembered in XL5 and taken at Sent.
-fn print_crossing(n: u8, back: u8, rate: u8, aip: u8) {
+// OPEN in XL6.
+fn print_opened(n: u8, back: u8, rate: u8, aip: u8) {
     let s = state(6, crossed(Held::Nothing, aip));
-    let t = state(5, crossed(Held::Frame(crossing(3, n, back, rate)), aip));
+    print_step(s, Event::Line(Primitive::Open), crossing(2, n, back, rate));
+}
+
+// The same OPEN remembered in XL5 and taken at Sent.
+fn print_sent(n: u8, back: u8, rate: u8, aip: u8) {
+    let s = state(5, crossed(Held::Frame(crossing(3, n, back, rate)), aip));
+    print_step(s, Event::Own(Notice::Sent), received());
+}
+
+fn print_crossing(n: u8, back: u8, rate: u8, aip: u8) {
     text(b"crossing\t");
     number(n);
-    text(b"\t");
+    sign(b'\t');
     number(back);
-    text(b"\t");
+    sign(b'\t');
     number(rate);
-    text(b"\t");
+    sign(b'\t');
     number(aip);
-    text(b"\t");
-    print_cell(
-        s,
-        xl::step(s, Event::Line(Primitive::Open), crossing(2, n, back, rate)),
-    );
-    text(b"\t");
-    print_cell(t, xl::step(t, Event::Own(Notice::Sent), received()));
-    text(b"\n");
+    print_opened(n, back, rate, aip);
+    print_sent(n, back, rate, aip);
+    sign(b'\n');
 }
 
 fn print_crossings() {
@@ -556,11 +616,8 @@ fn print_crossings() {
     }
 }
 
-// A frame with rate 11 beside each event that takes one, and an OPEN of bytes that the reader refuses, in a state that keeps the
-// rules and in one that does not.
-fn print_refusals(p: u8, there: u8) {
-    let bad = frame(2, 100, 4000, 3000, 11);
-    let s = state(
+fn blank(p: u8, there: u8) -> State {
+    state(
         p,
         Memory {
             held: held(there, transmitted()),
@@ -570,38 +627,52 @@ fn print_refusals(p: u8, there: u8) {
             close: false,
             blocked: false,
         },
-    );
-    let short = [0u8; 27];
-    let blank = [0u8; 28];
-    text(b"refused\t");
-    number(p);
-    text(b"\t");
-    number(there);
-    text(b"\t");
-    print_cell(s, xl::step(s, event(0, 0), bad));
-    text(b"\t");
-    print_cell(s, xl::step(s, event(5, 0), bad));
-    text(b"\t");
-    print_cell(s, xl::step(s, event(11, 0), bad));
-    text(b"\t");
-    print_cell(s, xl::step(s, event(22, 0), bad));
-    text(b"\t");
-    print_cell(s, xl::receive(s, &short));
-    text(b"\t");
-    print_cell(s, xl::receive(s, &blank));
-    text(b"\n");
+    )
 }
 
-// The count stops.
-fn print_count(count: u32) {
+// Event n with a frame of rate 11.
+fn print_unlisted(s: State, n: u8) {
+    print_step(s, event(n, 0), frame(2, 100, 4000, 3000, 11));
+}
+
+// A frame with rate 11 beside each event that takes one, and an OPEN of bytes that the reader refuses, in a state that keeps the
+// rules and in one that does not.
+fn print_refusals(p: u8, there: u8) {
+    let s = blank(p, there);
+    let short = [0u8; 27];
+    let zeros = [0u8; 28];
+    text(b"refused\t");
+    number(p);
+    sign(b'\t');
+    number(there);
+    print_unlisted(s, 0);
+    print_unlisted(s, 5);
+    print_unlisted(s, 11);
+    print_unlisted(s, 22);
+    print_received(s, &short);
+    print_received(s, &zeros);
+    sign(b'\n');
+}
+
+fn counting(count: u32) -> State {
     let mut s = xl_parts::unlinked();
     s.count = count;
-    let r = xl::step(s, Event::Line(Primitive::Close), received());
+    s
+}
+
+fn count_after(s: State, e: Event) -> u32 {
+    let r = xl::step(s, e, received());
+    r.state.count
+}
+
+// CLOSE is unexpected in XL0, and the count stops.
+fn print_count(count: u32) {
+    let after = count_after(counting(count), Event::Line(Primitive::Close));
     text(b"count\t");
     io::print_decimal(1, count as u64);
-    text(b"\t");
-    io::print_decimal(1, r.state.count as u64);
-    text(b"\n");
+    sign(b'\t');
+    io::print_decimal(1, after as u64);
+    sign(b'\n');
 }
 
 fn print_states() {

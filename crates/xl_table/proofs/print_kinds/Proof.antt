@@ -6,10 +6,10 @@ use Rattle.xl_table.proofs.print_kinds.Statement.{statement}
 use Rattle.xl_table.proofs.print_kinds.Tie as tie
 
 abbrev Inv-loop : tie.InvT-loop
-Inv-loop s n k₀ t4 k-end k = Unit {0}
+Inv-loop s n k₀ k-end k = Unit {0}
 
 abbrev μ-loop : tie.MeasureT-loop
-μ-loop s n k₀ t4 k-end k = 256 - k
+μ-loop s n k₀ k-end k = 256 - k
 
 kinds-requires : tie.Need-kinds-requires Inv-loop μ-loop
 kinds-requires c κs = search needs
@@ -17,23 +17,14 @@ kinds-requires c κs = search needs
 loop-holds : tie.Need-loop-holds Inv-loop μ-loop
 loop-holds c = tt
 
-slice-aggregate-text : tie.Need-slice-aggregate-text Inv-loop μ-loop
-slice-aggregate-text c = omega arith
-
-text-requires : tie.Need-text-requires Inv-loop μ-loop
-text-requires c κs = search needs
-
 event-requires : tie.Need-event-requires Inv-loop μ-loop
 event-requires c κs = search needs
 
 received-requires : tie.Need-received-requires Inv-loop μ-loop
 received-requires c κs = search needs
 
-step-requires : tie.Need-step-requires Inv-loop μ-loop
-step-requires c κs = search needs
-
-print-cell-requires : tie.Need-print-cell-requires Inv-loop μ-loop
-print-cell-requires c κs = search needs
+print-step-requires : tie.Need-print-step-requires Inv-loop μ-loop
+print-step-requires c κs = search needs
 
 add-k : tie.Need-add-k Inv-loop μ-loop
 add-k c = omega arith
@@ -55,12 +46,9 @@ print-kinds-spec =
     μ-loop
     kinds-requires
     loop-holds
-    slice-aggregate-text
-    text-requires
     event-requires
     received-requires
-    step-requires
-    print-cell-requires
+    print-step-requires
     add-k
     loop-less
     loop-again

@@ -6,10 +6,10 @@ use Rattle.xl_table.proofs.print_line.Statement.{statement}
 use Rattle.xl_table.proofs.print_line.Tie as tie
 
 abbrev Inv-loop : tie.InvT-loop
-Inv-loop p s n₀ t7 n = Unit {0}
+Inv-loop p s n₀ n = Unit {0}
 
 abbrev μ-loop : tie.MeasureT-loop
-μ-loop p s n₀ t7 n = 256 - n
+μ-loop p s n₀ n = 256 - n
 
 state-requires : tie.Need-state-requires Inv-loop μ-loop
 state-requires c κs = search needs
@@ -17,20 +17,14 @@ state-requires c κs = search needs
 number-requires : tie.Need-number-requires Inv-loop μ-loop
 number-requires c κs = search needs
 
-slice-aggregate-text : tie.Need-slice-aggregate-text Inv-loop μ-loop
-slice-aggregate-text c = omega arith
-
-text-requires : tie.Need-text-requires Inv-loop μ-loop
-text-requires c κs = search needs
+sign-requires : tie.Need-sign-requires Inv-loop μ-loop
+sign-requires c κs = search needs
 
 print-memory-requires : tie.Need-print-memory-requires Inv-loop μ-loop
 print-memory-requires c κs = search needs
 
-slice-aggregate-text-2 : tie.Need-slice-aggregate-text-2 Inv-loop μ-loop
-slice-aggregate-text-2 c = omega arith
-
-text-requires-2 : tie.Need-text-requires-2 Inv-loop μ-loop
-text-requires-2 c κs = search needs
+sign-requires-2 : tie.Need-sign-requires-2 Inv-loop μ-loop
+sign-requires-2 c κs = search needs
 
 print-status-requires : tie.Need-print-status-requires Inv-loop μ-loop
 print-status-requires c κs = search needs
@@ -50,11 +44,8 @@ loop-less c = omega arith
 loop-again : tie.Need-loop-again Inv-loop μ-loop
 loop-again c = tt
 
-slice-aggregate-text-3 : tie.Need-slice-aggregate-text-3 Inv-loop μ-loop
-slice-aggregate-text-3 c = omega arith
-
-text-requires-3 : tie.Need-text-requires-3 Inv-loop μ-loop
-text-requires-3 c κs = search needs
+sign-requires-3 : tie.Need-sign-requires-3 Inv-loop μ-loop
+sign-requires-3 c κs = search needs
 
 returns : tie.Need-returns Inv-loop μ-loop
 returns c = tt
@@ -67,17 +58,14 @@ print-line-spec =
     μ-loop
     state-requires
     number-requires
-    slice-aggregate-text
-    text-requires
+    sign-requires
     print-memory-requires
-    slice-aggregate-text-2
-    text-requires-2
+    sign-requires-2
     print-status-requires
     loop-holds
     print-kinds-requires
     add-n
     loop-less
     loop-again
-    slice-aggregate-text-3
-    text-requires-3
+    sign-requires-3
     returns)
