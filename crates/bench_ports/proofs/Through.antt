@@ -38,9 +38,9 @@ use Rattle.port_rows.specs.declared.Done.{Done}
 use Rattle.port.specs.declared.Stepped.{Stepped}
 use Rattle.port_parts.specs.declared.Request.{Request}
 use Rattle.port.specs.Calls.{Called}
-use Rattle.port.proofs.Arg.{Arg}
-use Rattle.port.proofs.Rec.{R}
-use Rattle.port.proofs.Callees.{gives1, calls1}
+use Rattle.port_walks.proofs.Arg.{Arg}
+use Rattle.port_walks.proofs.Rec.{R}
+use Rattle.port_walks.proofs.Callees.{gives1, calls1}
 use Rattle.port.proofs.Rows.{SteppedR, stepped}
 use Rattle.bench_ports.specs.declared.Reply.{Reply}
 use Rattle.bench_ports.specs.Face.{replyOf, Told}

@@ -49,11 +49,11 @@ use Rattle.port_parts.specs.Parts.{blank}
 use Rattle.port.specs.Calls.{steppedOf, leftOf, Called}
 use Rattle.port.specs.Scans.{deed}
 use Rattle.port.proofs.Turns.{served, refused, not-not}
-use Rattle.port.proofs.Arg.{Arg, number}
-use Rattle.port.proofs.Callees.{gives1, gives2, gives4, calls1, calls2, calls4, looks, scans}
-use Rattle.port.proofs.Rec.{R, request}
+use Rattle.port_walks.proofs.Arg.{Arg, number}
+use Rattle.port_walks.proofs.Callees.{gives1, gives2, gives4, calls1, calls2, calls4, looks, scans}
+use Rattle.port_walks.proofs.Rec.{R, request}
 use Rattle.port.proofs.Rows.{DoneR, done as doneᴬ, SteppedR, stepped as steppedᴬ}
-use Rattle.port.proofs.Shared.{LentShared, shares-again, comes-back}
+use Rattle.port_walks.proofs.Shared.{LentShared, shares-again, comes-back}
 use Rattle.port.proofs.load.Symbol.{name as #port·load}
 use Rattle.port.proofs.left as left′
 use Rattle.port.proofs.left.Symbol.{name as #port·left}

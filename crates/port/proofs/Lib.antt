@@ -1,14 +1,7 @@
--- The walks of the lent list, each proved once, and what the scans find.
-pub mod Arg
-pub mod Callees
-pub mod Rec
+-- The calls over the lent list: what they share, and what the scans find.
 pub mod Rows
-mod Shared
 mod Turns
-mod FoldFrom
-mod Survey
 mod Still
-mod Leave
 mod Call
 pub mod Told
 pub mod Promised

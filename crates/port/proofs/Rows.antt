@@ -7,7 +7,7 @@ use types.Kit.{Given}
 use denote.RattleType.{RattleType}
 use denote.Laws.{Is, Makes, Lawful}
 use denote.Struct.Laws as LL
-use Rattle.port.proofs.Arg.{Arg}
+use Rattle.port_walks.proofs.Arg.{Arg}
 use Rattle.port_rules.proofs.Against as Against′
 use Rattle.port_rules.proofs.Against.Laws as Against″
 use Rattle.port_parts.proofs.Port as Port′

@@ -1,20 +1,11 @@
--- What the walks use of tests and choices: each case of the test shows it. Assumes nothing.
+-- What the calls use of tests and choices: each case of the test shows it. Assumes nothing.
 use mathlib.Core.Path.{_≡_, refl}
 use mathlib.Core.Bool.{Bool, true, false, not, cond}
-use mathlib.Core.Logic.{_⊎_, inl, inr}
 use mathlib.Core.List.{List}
-use Prim.Native.Nat.{ℕ, _≤_, _<_}
-use lib.Dec.{T, eqb, ltb, ltb→lt, nltb→le}
+use lib.Dec.{T, eqb}
 use lib.ListN.{length}
 use Rattle.port_parts.specs.declared.Request.{Request}
 use Rattle.port.specs.Calls.{on32}
-
-either : (y : Bool) {P Q : Type 0} → (T y → P) → (T (not y) → Q) → P ⊎ Q
-either true p q = inl (p tt)
-either false p q = inr (q tt)
-
-pub below-or-not : (m n : ℕ) → (m < n) ⊎ (n ≤ m)
-below-or-not m n = either (ltb m n) (ltb→lt m n) (nltb→le m n)
 
 pub not-not : (y : Bool) → T (not (not y)) → T y
 not-not true h = tt

@@ -1,15 +1,17 @@
 // Document 01, 'Port': the ten calls, each on the record that it is about and on numbers. The crate above finds the record in the
 // lent list and stores it there.
 ghost use mathlib.Core.Path.{_≡_};
-ghost use mathlib.Core.Bool.{cond};
+ghost use mathlib.Core.Bool.{cond, not, false};
 ghost use Prim.Native.Nat.{_-_};
 ghost use lib.ListN.{length};
 ghost use Rattle.refusals.specs.Causes.{refuse};
+ghost use Rattle.port_parts.specs.Parts.{blank, isOpening};
 ghost use Rattle.port_rows.specs.Answers.{noFrame, naming, nameless, later, withPhy, fresh, noPort, idlePhy, stagedPhy, joinedPhy, unchanged, lossBy, told, refusedBy};
 ghost use Rattle.port_rows.specs.Finds.{noRoom, roomStep, keyStep};
-ghost use Rattle.port_rows.specs.Calls.{phyAt, placed, marked, waited, timed, submitted, submitCauses, cancelCauses, chooseCauses, phyCauses, setupOf, submitOf, cancelOf, chooseOf, openedOf, openFailedOf, frameStatusOf, closedOf, enableOf, disableOf};
+ghost use Rattle.port_rows.specs.Calls.{phyAt, closedPhy, placed, marked, waited, timed, submitted, submitCauses, cancelCauses, chooseCauses, phyCauses, setupOf, submitOf, cancelOf, chooseOf, openedOf, openFailedOf, frameStatusOf, closedOf, enableOf, disableOf};
 ghost use Rattle.port_rows.specs.Calls as calls;
 ghost use Rattle.port_rows.specs.declared.Checked.{Checked};
+ghost use Rattle.port_rows.specs.declared.Word.the-variants.{Taken, Open, Close, StopArb, Retried, CancelAcknowledged, Ended, NexusLoss};
 use open_frame::Awt;
 use open_frame::Head;
 use open_frame::OpenFrame;
@@ -47,12 +49,6 @@ fn byte_if(t: bool, a: u8, b: u8) -> u8
 }
 
 fn stamp_if(t: bool, a: Stamp, b: Stamp) -> Stamp
-    ensures { λ r. ⌜ r ≡ cond t a b ⌝ }
-{
-    if t { a } else { b }
-}
-
-fn request_if(t: bool, a: Request, b: Request) -> Request
     ensures { λ r. ⌜ r ≡ cond t a b ⌝ }
 {
     if t { a } else { b }
@@ -133,6 +129,15 @@ fn told(port: Port, word: Word, slot: u8, phy: u8, r: Request, entry: Request, l
         loss,
         cleared: false,
     }
+}
+
+// The answer on a request that leaves: its record is set free, and no timer changes.
+fn ended(port: Port, word: Word, slot: u8, phy: u8, r: Request) -> Done
+    ensures { λ d. ⌜ d ≡ told port word slot phy r blank unchanged ⌝ }
+{
+    let free = port_parts::freed();
+    let loss = no_loss();
+    told(port, word, slot, phy, r, free, loss)
 }
 
 // An answer that names nothing; no record is stored, or all are cleared.
@@ -437,22 +442,28 @@ fn staged(stage: u8, slot: u8, f: Phy) -> Phy
     }
 }
 
-fn cancelled(p: Port, r: Request, s: u8, now: u64) -> Done
-    ensures { λ d. ⌜ d ≡ calls.cancelled p r s now ⌝ }
+// A request in progress is cancelled, and its phy stops or closes.
+fn stopping(p: Port, r: Request, s: u8, now: u64) -> Done
+    ensures { λ d. ⌜ d ≡ told (withPhy p (r .phy) (closedPhy (phyAt p (r .phy))) now) (cond (isOpening (phyAt p (r .phy))) StopArb Close) s (r .phy) r (marked r 1 (r .closed)) unchanged ⌝ }
 {
-    let loss = no_loss();
-    if r.stage == 1 {
-        let q = later(p, now);
-        let free = port_parts::freed();
-        return told(q, Word::CancelAcknowledged, s, 8, r, free, loss);
-    }
     let f = phy_at(p, r.phy);
     let stage = byte_if(f.stage == 4, 6, f.stage);
     let g = staged(stage, f.slot, f);
     let q = with_phy(p, r.phy, g, now);
     let word = word_if(f.stage == 2, Word::StopArb, Word::Close);
     let entry = marked(r, 1, r.closed);
+    let loss = no_loss();
     told(q, word, s, r.phy, r, entry, loss)
+}
+
+fn cancelled(p: Port, r: Request, s: u8, now: u64) -> Done
+    ensures { λ d. ⌜ d ≡ calls.cancelled p r s now ⌝ }
+{
+    if r.stage == 1 {
+        let q = later(p, now);
+        return ended(q, Word::CancelAcknowledged, s, 8, r);
+    }
+    stopping(p, r, s, now)
 }
 
 pub fn cancel_core(p: Port, r: Request, kept: bool, s: u8, x: Withdrawn) -> Done
@@ -493,6 +504,30 @@ fn sent(p: Port, r: Request, b: Pick, now: u64) -> Done
     told(q, Word::Send, b.slot, b.phy, r, entry, loss)
 }
 
+// An open, whose frame the record holds.
+fn asked(port: Port, slot: u8, phy: u8, entry: Request) -> Done
+    ensures { λ d. ⌜ d ≡ record { port = port; answer = record { word = Open; slot = slot; phy = phy; frame = record { head = entry .head; pbc = entry .pbc; awt = entry .awt } }; entry = entry; loss = unchanged; cleared = false } ⌝ }
+{
+    let head = entry.head;
+    let pbc = entry.pbc;
+    let awt = entry.awt;
+    let frame = OpenFrame { head, pbc, awt };
+    let answer = Answer {
+        word: Word::Open,
+        slot,
+        phy,
+        frame,
+    };
+    let loss = no_loss();
+    Done {
+        port,
+        answer,
+        entry,
+        loss,
+        cleared: false,
+    }
+}
+
 fn opening(p: Port, r: Request, b: Pick, now: u64) -> Done
     ensures { λ d. ⌜ d ≡ calls.opening p r b now ⌝ }
 {
@@ -506,25 +541,9 @@ fn opening(p: Port, r: Request, b: Pick, now: u64) -> Done
     let stamp = port_parts::stamped(now);
     let first = stamp_if(r.first.set == 1, r.first, stamp);
     let awt = open_frame::wait_value(elapsed(first.at, now));
-    let head = r.head;
-    let pbc = r.pbc;
-    let frame = OpenFrame { head, pbc, awt };
-    let answer = Answer {
-        word: Word::Open,
-        slot: b.slot,
-        phy: b.phy,
-        frame,
-    };
     let on = placed(r, 2, b.phy);
-    let entry = waited(on, pbc, awt, r.retry, first);
-    let loss = no_loss();
-    Done {
-        port: q,
-        answer,
-        entry,
-        loss,
-        cleared: false,
-    }
+    let entry = waited(on, r.pbc, awt, r.retry, first);
+    asked(q, b.slot, b.phy, entry)
 }
 
 fn closing(p: Port, r: Request, b: Pick, now: u64) -> Done
@@ -615,31 +634,19 @@ fn one_more(n: Pbc) -> Pbc
     if n.0 < 255 { Pbc(n.0 + 1) } else { Pbc(255) }
 }
 
-fn pbc_if(t: bool, a: Pbc, b: Pbc) -> Pbc
-    ensures { λ r. ⌜ r ≡ cond t a b ⌝ }
-{
-    if t { a } else { b }
-}
-
-fn awt_if(t: bool, a: Awt, b: Awt) -> Awt
-    ensures { λ r. ⌜ r ≡ cond t a b ⌝ }
-{
-    if t { a } else { b }
-}
-
 // The request waits again after its open failed.
 fn again(r: Request, why: Reason, now: u64, t: Stamp) -> Request
     ensures { λ a. ⌜ a ≡ calls.again r why now t ⌝ }
 {
-    let blocked = port_parts::is_blocked(why);
     let waits = placed(r, 1, 0);
-    let more = one_more(r.pbc);
-    let pbc = pbc_if(blocked, more, Pbc(0));
-    let awt = awt_if(blocked, r.awt, Awt(0));
     let retry = port_parts::stamped(now);
+    if port_parts::is_blocked(why) {
+        let more = one_more(r.pbc);
+        let on = waited(waits, more, r.awt, retry, r.first);
+        return timed(on, t);
+    }
     let none = port_parts::no_stamp();
-    let first = stamp_if(blocked, r.first, none);
-    let anew = waited(waits, pbc, awt, retry, first);
+    let anew = waited(waits, Pbc(0), Awt(0), retry, none);
     timed(anew, t)
 }
 
@@ -653,6 +660,30 @@ fn timer_after(r: Request, why: Reason, now: u64) -> Stamp
     stamp_if(r.head.protocol == 1, t, r.loss)
 }
 
+fn failed_word(gone: bool, retried: bool, lost: bool, why: Reason) -> Word
+    ensures { λ w. ⌜ w ≡ cond gone CancelAcknowledged (cond (not retried) (Ended why) (cond lost NexusLoss Retried)) ⌝ }
+{
+    if gone {
+        return Word::CancelAcknowledged;
+    }
+    if !retried {
+        return Word::Ended(why);
+    }
+    if lost {
+        return Word::NexusLoss;
+    }
+    Word::Retried
+}
+
+fn failed_entry(goes_on: bool, r: Request, why: Reason, now: u64, t: Stamp) -> Request
+    ensures { λ a. ⌜ a ≡ cond «goes_on» (calls.again r why now t) blank ⌝ }
+{
+    if goes_on {
+        return again(r, why, now, t);
+    }
+    port_parts::freed()
+}
+
 fn failed(p: Port, f: Phy, r: Request, why: Reason, k: u8, now: u64) -> Done
     ensures { λ d. ⌜ d ≡ calls.failed p f r why k now ⌝ }
 {
@@ -661,12 +692,8 @@ fn failed(p: Port, f: Phy, r: Request, why: Reason, k: u8, now: u64) -> Done
     let gone = r.cancelled == 1;
     let retried = port_parts::is_retried(why);
     let lost = (r.head.protocol == 1) & port_parts::is_lost(t, p.loss, now);
-    let last = word_if(lost, Word::NexusLoss, Word::Retried);
-    let ends = word_if(!retried, Word::Ended(why), last);
-    let word = word_if(gone, Word::CancelAcknowledged, ends);
-    let waits = again(r, why, now, t);
-    let free = port_parts::freed();
-    let entry = request_if(!gone & (retried & !lost), waits, free);
+    let word = failed_word(gone, retried, lost, why);
+    let entry = failed_entry(!gone & (retried & !lost), r, why, now, t);
     let loss = loss_by(r, t);
     told(q, word, f.slot, k, r, entry, loss)
 }
@@ -714,9 +741,7 @@ fn framed(p: Port, f: Phy, r: Request, x: Report) -> Done
         Word::CancelAcknowledged,
         Word::Status(x.status),
     );
-    let free = port_parts::freed();
-    let loss = no_loss();
-    told(q, word, f.slot, x.phy, r, free, loss)
+    ended(q, word, f.slot, x.phy, r)
 }
 
 pub fn frame_status_core(p: Port, r: Request, kept: bool, x: Report) -> Done
@@ -729,19 +754,25 @@ pub fn frame_status_core(p: Port, r: Request, kept: bool, x: Report) -> Done
     given(c, p, d)
 }
 
+// What is said of the request that a phy names as the phy leaves it, and if it names none.
+fn left_word(names: bool, gone: bool, word: Word) -> Word
+    ensures { λ w. ⌜ w ≡ cond names (cond gone CancelAcknowledged word) Taken ⌝ }
+{
+    if names {
+        if gone {
+            return Word::CancelAcknowledged;
+        }
+        return word;
+    }
+    Word::Taken
+}
+
 fn closed_done(p: Port, f: Phy, r: Request, x: Confirmed) -> Done
     ensures { λ d. ⌜ d ≡ calls.closedDone p f r x ⌝ }
 {
     let q = with_phy(p, x.phy, idle_phy(), x.now);
-    let ends = word_if(
-        r.cancelled == 1,
-        Word::CancelAcknowledged,
-        Word::ConnectionLost,
-    );
-    let word = word_if(f.slot < 32, ends, Word::Taken);
-    let free = port_parts::freed();
-    let loss = no_loss();
-    told(q, word, f.slot, x.phy, r, free, loss)
+    let word = left_word(f.slot < 32, r.cancelled == 1, Word::ConnectionLost);
+    ended(q, word, f.slot, x.phy, r)
 }
 
 pub fn closed_core(p: Port, r: Request, kept: bool, x: Confirmed) -> Done
@@ -760,10 +791,18 @@ pub fn enable_core(p: Port, r: Request, kept: bool, x: Confirmed) -> Done
     let f = phy_at(p, x.phy);
     let c = phy_checked(p, kept, x.phy, x.now, !(f.stage == 0));
     let q = with_phy(p, x.phy, idle_phy(), x.now);
-    let free = port_parts::freed();
-    let loss = no_loss();
-    let d = told(q, Word::Taken, 32, x.phy, r, free, loss);
+    let d = ended(q, Word::Taken, 32, x.phy, r);
     given(c, p, d)
+}
+
+// The request of a phy that is disabled waits again, unless it was cancelled.
+fn left_entry(gone: bool, r: Request) -> Request
+    ensures { λ a. ⌜ a ≡ cond gone blank (placed r 1 0) ⌝ }
+{
+    if gone {
+        return port_parts::freed();
+    }
+    placed(r, 1, 0)
 }
 
 fn disabled_done(p: Port, f: Phy, r: Request, x: Confirmed) -> Done
@@ -772,11 +811,8 @@ fn disabled_done(p: Port, f: Phy, r: Request, x: Confirmed) -> Done
     let off = port_parts::disabled();
     let q = with_phy(p, x.phy, off, x.now);
     let gone = r.cancelled == 1;
-    let leaves = word_if(gone, Word::CancelAcknowledged, Word::Waiting);
-    let word = word_if(f.slot < 32, leaves, Word::Taken);
-    let free = port_parts::freed();
-    let waits = placed(r, 1, 0);
-    let entry = request_if(gone, free, waits);
+    let word = left_word(f.slot < 32, gone, Word::Waiting);
+    let entry = left_entry(gone, r);
     let loss = no_loss();
     told(q, word, f.slot, x.phy, r, entry, loss)
 }

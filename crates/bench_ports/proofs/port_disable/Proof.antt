@@ -5,8 +5,8 @@ use denote.Memory.{pointee}
 use denote.Triple.Spec.{tripleOf}
 use denote.Triple.Table.{entered, cited}
 use Rattle.port.specs.Calls.{short, disableCall}
-use Rattle.port.proofs.Callees.{gives1}
-use Rattle.port.proofs.Rec.{R}
+use Rattle.port_walks.proofs.Callees.{gives1}
+use Rattle.port_walks.proofs.Rec.{R}
 use Rattle.port.proofs.Rows.{PortR, port, port-lawful, ConfirmedR, confirmed, confirmed-lawful, SteppedR, stepped, stepped-lawful}
 use Rattle.port.proofs.disable.Symbol as call-def
 use Rattle.port.proofs.disable.Met as call-thm

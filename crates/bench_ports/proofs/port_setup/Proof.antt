@@ -5,11 +5,11 @@ use denote.Memory.{pointee}
 use denote.Triple.Spec.{tripleOf}
 use denote.Triple.Table.{entered, cited}
 use Rattle.port.specs.Calls.{shortSetup, setupCall}
-use Rattle.port.proofs.Callees.{gives1}
-use Rattle.port.proofs.Rec.{R}
+use Rattle.port_walks.proofs.Callees.{gives1}
+use Rattle.port_walks.proofs.Rec.{R}
 use package.mir.Syntax.{w8, w16, tyInt}
 use denote.Plain.{uint-lawful}
-use Rattle.port.proofs.Arg.{number}
+use Rattle.port_walks.proofs.Arg.{number}
 use Rattle.port.proofs.Rows.{SteppedR, stepped, stepped-lawful}
 use Rattle.port.proofs.setup.Symbol as call-def
 use Rattle.port.proofs.setup.Met as call-thm

@@ -9,10 +9,10 @@ use denote.Triple.Spec.{tripleOf}
 use denote.Triple.Table.{entered, cited}
 use Rattle.port.specs.Scans.{apartStart, fromOf}
 use Rattle.port_rules.specs.Rules.{apartStep}
-use Rattle.port.proofs.Rec.{R, lawful}
+use Rattle.port_walks.proofs.Rec.{R, lawful}
 use Rattle.port.proofs.Rows.{AgainstR, against, against-lawful}
-use Rattle.port.proofs.Arg.{boolean}
-use Rattle.port.proofs.FoldFrom.{start, from′, step, from-meets}
+use Rattle.port_walks.proofs.Arg.{boolean}
+use Rattle.port_walks.proofs.FoldFrom.{start, from′, step, from-meets}
 use Rattle.port.proofs.apart_start.Symbol as start-def
 use Rattle.port.proofs.apart_start.Met as start-thm
 use Rattle.port.proofs.apart_from.Symbol as from-def

@@ -9,10 +9,10 @@ use denote.Triple.Spec.{tripleOf}
 use denote.Triple.Table.{entered, cited}
 use Rattle.port_rules.specs.Rules.{againstOf, apartFrom}
 use Rattle.port.specs.Scans.{roomStart, roomJoin}
-use Rattle.port.proofs.Rec.{R, lawful}
-use Rattle.port.proofs.Arg.{boolean}
+use Rattle.port_walks.proofs.Rec.{R, lawful}
+use Rattle.port_walks.proofs.Arg.{boolean}
 use Rattle.port.proofs.Rows.{AgainstR, against, against-lawful, PlaceR, place, place-lawful, SeekingR, seeking, seeking-lawful}
-use Rattle.port.proofs.Survey as survey
+use Rattle.port_walks.proofs.Survey as survey
 use Rattle.port.proofs.room_start.Symbol as start-def
 use Rattle.port.proofs.room_start.Met as start-thm
 use Rattle.port.proofs.against.Symbol as key-def

@@ -8,10 +8,10 @@ use denote.Triple.Table.{entered, cited}
 use Rattle.port.specs.Calls.{short, cancelCall}
 use Rattle.port.specs.Scans.{surveyed, keyStart, keyJoin, cancelAsk, cancelSlot, cancelCore}
 use Rattle.port.proofs.Told.{cancel-is}
-use Rattle.port.proofs.Arg.{number}
-use Rattle.port.proofs.Rec.{R, request, lawful}
+use Rattle.port_walks.proofs.Arg.{number}
+use Rattle.port_walks.proofs.Rec.{R, request, lawful}
 use Rattle.port.proofs.Rows.{KeyedR, keyed, keyed-lawful, NamedR, named, named-lawful, PortR, port, port-lawful, WithdrawnR, withdrawn, withdrawn-lawful, DoneR, done, done-lawful, SteppedR, stepped, stepped-lawful}
-use Rattle.port.proofs.Callees.{gives1, gives2, gives4, looks}
+use Rattle.port_walks.proofs.Callees.{gives1, gives2, gives4, looks}
 use Rattle.port.proofs.Call.{recordAt, Apply, call-meets}
 use Rattle.port.proofs.short.Symbol as refuse-def
 use Rattle.port.proofs.short.Met as refuse-thm

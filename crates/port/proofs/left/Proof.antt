@@ -9,9 +9,9 @@ use Rattle.port_rows.specs.Records.{leftStep}
 use Rattle.port.specs.Calls.{steppedOf}
 use Rattle.port.specs.Walk.{walkFrom, walkTo}
 use Rattle.port.proofs.Still.{ordered, within, before, behind}
-use Rattle.port.proofs.Rec.{R, lawful}
+use Rattle.port_walks.proofs.Rec.{R, lawful}
 use Rattle.port.proofs.Rows.{DoneR, done, done-lawful, SteppedR, stepped, stepped-lawful}
-use Rattle.port.proofs.Leave.{place-at, step, answer, leave-meets}
+use Rattle.port_walks.proofs.Leave.{place-at, step, answer, leave-meets}
 use Rattle.port.proofs.left_from.Symbol as from-def
 use Rattle.port.proofs.left_from.Met as from-thm
 use Rattle.port.proofs.left_to.Symbol as to-def

@@ -44,7 +44,7 @@ use denote.Triple.Walked.{says, needs, Stays, stay-dropped, stay-slice, walkOf, 
 use denote.Exit.{yes}
 use Rattle.port_parts.specs.declared.Request.{Request}
 use Rattle.port_parts.specs.Parts.{blank}
-use Rattle.port.proofs.Rec.{R, mach, vals, tells, copy, lawful, makes, place-fits, stride}
+use Rattle.port_walks.proofs.Rec.{R, mach, vals, tells, copy, lawful, makes, place-fits, stride}
 use Rattle.port.proofs.empty as empty
 use Rattle.port.proofs.empty.Symbol as empty-def
 use Rattle.port.proofs.empty.Symbol.{name as #port·empty}

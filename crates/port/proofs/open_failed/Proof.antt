@@ -9,10 +9,10 @@ use Rattle.port.specs.Calls.{short, openFailedCall}
 use Rattle.port.specs.Scans.{surveyed, namedStart, namedJoin, failureAsk, failureSlot, openFailedCore}
 use Rattle.port_rows.specs.Calls.{openFailedOf}
 use Rattle.port.proofs.Told.{named-is}
-use Rattle.port.proofs.Arg.{number}
-use Rattle.port.proofs.Rec.{R, request, lawful}
+use Rattle.port_walks.proofs.Arg.{number}
+use Rattle.port_walks.proofs.Rec.{R, request, lawful}
 use Rattle.port.proofs.Rows.{FailureR, failure, failure-lawful, NamedR, named, named-lawful, PortR, port, port-lawful, SoughtR, sought, sought-lawful, DoneR, done, done-lawful, SteppedR, stepped, stepped-lawful}
-use Rattle.port.proofs.Callees.{gives1, gives2, gives4, looks}
+use Rattle.port_walks.proofs.Callees.{gives1, gives2, gives4, looks}
 use Rattle.port.proofs.Call.{recordAt, Apply, call-meets}
 use Rattle.port.proofs.short.Symbol as refuse-def
 use Rattle.port.proofs.short.Met as refuse-thm

@@ -10,10 +10,10 @@ use Rattle.port_rules.specs.Rules.{apartFrom}
 use mathlib.Core.Path.{refl}
 use package.mir.Syntax.{w8, w16, w64, tyInt, tyBool}
 use denote.Plain.{uint-lawful, bool-lawful}
-use Rattle.port.proofs.Arg.{number, boolean}
-use Rattle.port.proofs.Rec.{R, request, lawful}
+use Rattle.port_walks.proofs.Arg.{number, boolean}
+use Rattle.port_walks.proofs.Rec.{R, request, lawful}
 use Rattle.port.proofs.Rows.{AgainstR, against, against-lawful, DoneR, done, done-lawful, SteppedR, stepped, stepped-lawful}
-use Rattle.port.proofs.Callees.{gives1, gives2, gives4, looks}
+use Rattle.port_walks.proofs.Callees.{gives1, gives2, gives4, looks}
 use Rattle.port.proofs.Call.{recordAt, Apply, call-meets}
 use Rattle.port.proofs.short_setup.Symbol as refuse-def
 use Rattle.port.proofs.short_setup.Met as refuse-thm

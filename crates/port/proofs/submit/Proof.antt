@@ -8,10 +8,10 @@ use denote.Triple.Table.{entered, cited}
 use Rattle.port.specs.Calls.{short, submitCall}
 use Rattle.port.specs.Scans.{surveyed, roomStart, roomJoin, submitAsk, submitSlot, submitCore}
 use Rattle.port.proofs.Told.{submit-is}
-use Rattle.port.proofs.Arg.{number}
-use Rattle.port.proofs.Rec.{R, request, lawful}
+use Rattle.port_walks.proofs.Arg.{number}
+use Rattle.port_walks.proofs.Rec.{R, request, lawful}
 use Rattle.port.proofs.Rows.{PlaceR, place, place-lawful, PortR, port, port-lawful, SeekingR, seeking, seeking-lawful, WishR, wish, wish-lawful, DoneR, done, done-lawful, SteppedR, stepped, stepped-lawful}
-use Rattle.port.proofs.Callees.{gives1, gives2, gives4, looks}
+use Rattle.port_walks.proofs.Callees.{gives1, gives2, gives4, looks}
 use Rattle.port.proofs.Call.{recordAt, Apply, call-meets}
 use Rattle.port.proofs.short.Symbol as refuse-def
 use Rattle.port.proofs.short.Met as refuse-thm

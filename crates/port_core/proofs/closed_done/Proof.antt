@@ -8,33 +8,16 @@ idle-phy-requires c κs = search needs
 with-phy-requires : tie.Need-with-phy-requires
 with-phy-requires c κs = search needs
 
-word-if-requires : tie.Need-word-if-requires
-word-if-requires c κs = search needs
+left-word-requires : tie.Need-left-word-requires
+left-word-requires c κs = search needs
 
-word-if-requires-2 : tie.Need-word-if-requires-2
-word-if-requires-2 c κs = search needs
-
-freed-requires : tie.Need-freed-requires
-freed-requires c κs = search needs
-
-no-loss-requires : tie.Need-no-loss-requires
-no-loss-requires c κs = search needs
-
-told-requires : tie.Need-told-requires
-told-requires c κs = search needs
+ended-requires : tie.Need-ended-requires
+ended-requires c κs = search needs
 
 returns : tie.Need-returns
-returns c = rw (c .told .ensures, c .before .no-loss .ensures, c .before .before .freed .ensures, c .before .before .before .word-if2 .ensures, c .before .before .before .before .before .word-if .ensures, c .before .before .before .before .before .before .before .with-phy .ensures, c .before .before .before .before .before .before .before .before .idle-phy .ensures)
+returns c = rw (c .ended .ensures, c .before .left-word .ensures, c .before .before .before .before .with-phy .ensures, c .before .before .before .before .before .idle-phy .ensures)
 
 pub closed-done-spec : {M : Type 1} → statement M
 closed-done-spec =
     tie.close
-    (tie.spec
-    idle-phy-requires
-    with-phy-requires
-    word-if-requires
-    word-if-requires-2
-    freed-requires
-    no-loss-requires
-    told-requires
-    returns)
+    (tie.spec idle-phy-requires with-phy-requires left-word-requires ended-requires returns)

@@ -21,14 +21,8 @@ idle-phy-requires c κs = search needs
 with-phy-requires : tie.Need-with-phy-requires
 with-phy-requires c κs = search needs
 
-freed-requires : tie.Need-freed-requires
-freed-requires c κs = search needs
-
-no-loss-requires : tie.Need-no-loss-requires
-no-loss-requires c κs = search needs
-
-told-requires : tie.Need-told-requires
-told-requires c κs = search needs
+ended-requires : tie.Need-ended-requires
+ended-requires c κs = search needs
 
 given-requires : tie.Need-given-requires
 given-requires c κs = search needs
@@ -36,9 +30,9 @@ given-requires c κs = search needs
 returns : tie.Need-returns
 unfolding enableOf
 returns c =
-    let a = c .before .before .before .before .before .before .before .before .before .args in
-    let is = c .before .before .before .before .before .before .before .before .phy-at .ensures in
-    settled (phyCauses (a .p) (a .kept) (a .x .phy) (a .x .now) (not (isDisabled (phyAt (a .p) (a .x .phy))))) (a .p) (told (withPhy (a .p) (a .x .phy) idlePhy (a .x .now)) Taken 32 (a .x .phy) (a .r) blank unchanged) {c = c .before .before .before .before .before .before .phy-checked .result} {e = c .before .told .result} (c .given .ensures) (rw (← is) (c .before .before .before .before .before .before .phy-checked .ensures)) (rw (c .before .told .ensures, c .before .before .no-loss .ensures, c .before .before .before .freed .ensures, c .before .before .before .before .with-phy .ensures, c .before .before .before .before .before .idle-phy .ensures))
+    let a = c .before .before .before .before .before .before .before .args in
+    let is = c .before .before .before .before .before .before .phy-at .ensures in
+    settled (phyCauses (a .p) (a .kept) (a .x .phy) (a .x .now) (not (isDisabled (phyAt (a .p) (a .x .phy))))) (a .p) (told (withPhy (a .p) (a .x .phy) idlePhy (a .x .now)) Taken 32 (a .x .phy) (a .r) blank unchanged) {c = c .before .before .before .before .phy-checked .result} {e = c .before .ended .result} (c .given .ensures) (rw (← is) (c .before .before .before .before .phy-checked .ensures)) (rw (c .before .ended .ensures, c .before .before .with-phy .ensures, c .before .before .before .idle-phy .ensures))
 
 pub enable-core-spec : {M : Type 1} → statement M
 enable-core-spec =
@@ -48,8 +42,6 @@ enable-core-spec =
     phy-checked-requires
     idle-phy-requires
     with-phy-requires
-    freed-requires
-    no-loss-requires
-    told-requires
+    ended-requires
     given-requires
     returns)

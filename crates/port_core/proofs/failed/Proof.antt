@@ -17,23 +17,11 @@ is-retried-requires c κs = search needs
 is-lost-requires : tie.Need-is-lost-requires
 is-lost-requires c κs = search needs
 
-word-if-requires : tie.Need-word-if-requires
-word-if-requires c κs = search needs
+failed-word-requires : tie.Need-failed-word-requires
+failed-word-requires c κs = search needs
 
-word-if-requires-2 : tie.Need-word-if-requires-2
-word-if-requires-2 c κs = search needs
-
-word-if-requires-3 : tie.Need-word-if-requires-3
-word-if-requires-3 c κs = search needs
-
-again-requires : tie.Need-again-requires
-again-requires c κs = search needs
-
-freed-requires : tie.Need-freed-requires
-freed-requires c κs = search needs
-
-request-if-requires : tie.Need-request-if-requires
-request-if-requires c κs = search needs
+failed-entry-requires : tie.Need-failed-entry-requires
+failed-entry-requires c κs = search needs
 
 loss-by-requires : tie.Need-loss-by-requires
 loss-by-requires c κs = search needs
@@ -42,7 +30,7 @@ told-requires : tie.Need-told-requires
 told-requires c κs = search needs
 
 returns : tie.Need-returns
-returns c = rw (c .told .ensures, c .before .loss-by .ensures, c .before .before .request-if .ensures, c .before .before .before .freed .ensures, c .before .before .before .before .again .ensures, c .before .before .before .before .before .word-if3 .ensures, c .before .before .before .before .before .before .word-if2 .ensures, c .before .before .before .before .before .before .before .word-if .ensures, c .before .before .before .before .before .before .before .before .is-lost .ensures, c .before .before .before .before .before .before .before .before .before .before .is-retried .ensures, c .before .before .before .before .before .before .before .before .before .before .before .before .timer-after .ensures, c .before .before .before .before .before .before .before .before .before .before .before .before .before .with-phy .ensures, c .before .before .before .before .before .before .before .before .before .before .before .before .before .before .idle-phy .ensures)
+returns c = rw (c .told .ensures, c .before .loss-by .ensures, c .before .before .failed-entry .ensures, c .before .before .before .failed-word .ensures, c .before .before .before .before .is-lost .ensures, c .before .before .before .before .before .before .is-retried .ensures, c .before .before .before .before .before .before .before .before .timer-after .ensures, c .before .before .before .before .before .before .before .before .before .with-phy .ensures, c .before .before .before .before .before .before .before .before .before .before .idle-phy .ensures)
 
 pub failed-spec : {M : Type 1} → statement M
 failed-spec =
@@ -53,12 +41,8 @@ failed-spec =
     timer-after-requires
     is-retried-requires
     is-lost-requires
-    word-if-requires
-    word-if-requires-2
-    word-if-requires-3
-    again-requires
-    freed-requires
-    request-if-requires
+    failed-word-requires
+    failed-entry-requires
     loss-by-requires
     told-requires
     returns)

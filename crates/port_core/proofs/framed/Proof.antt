@@ -14,17 +14,11 @@ with-phy-requires c κs = search needs
 word-if-requires : tie.Need-word-if-requires
 word-if-requires c κs = search needs
 
-freed-requires : tie.Need-freed-requires
-freed-requires c κs = search needs
-
-no-loss-requires : tie.Need-no-loss-requires
-no-loss-requires c κs = search needs
-
-told-requires : tie.Need-told-requires
-told-requires c κs = search needs
+ended-requires : tie.Need-ended-requires
+ended-requires c κs = search needs
 
 returns : tie.Need-returns
-returns c = rw (c .told .ensures, c .before .no-loss .ensures, c .before .before .freed .ensures, c .before .before .before .word-if .ensures, c .before .before .before .before .before .with-phy .ensures, c .before .before .before .before .before .before .staged .ensures, c .before .before .before .before .before .before .before .byte-if .ensures)
+returns c = rw (c .ended .ensures, c .before .word-if .ensures, c .before .before .before .with-phy .ensures, c .before .before .before .before .staged .ensures, c .before .before .before .before .before .byte-if .ensures)
 
 pub framed-spec : {M : Type 1} → statement M
 framed-spec =
@@ -34,7 +28,5 @@ framed-spec =
     staged-requires
     with-phy-requires
     word-if-requires
-    freed-requires
-    no-loss-requires
-    told-requires
+    ended-requires
     returns)

@@ -1,6 +1,7 @@
 use borrow.Author.Needs.{needs}
 use Rattle.port_core.proofs.opening.Statement.{statement}
 use Rattle.port_core.proofs.opening.Tie as tie
+use Rattle.open_frame.proofs.wait_value.Reads as wait-value-reads
 
 with-phy-requires : tie.Need-with-phy-requires
 with-phy-requires c κs = search needs
@@ -23,11 +24,11 @@ placed-requires c κs = search needs
 waited-requires : tie.Need-waited-requires
 waited-requires c κs = search needs
 
-no-loss-requires : tie.Need-no-loss-requires
-no-loss-requires c κs = search needs
+asked-requires : tie.Need-asked-requires
+asked-requires c κs = search needs
 
 returns : tie.Need-returns
-returns c = rw (c .no-loss .ensures, c .before .waited .ensures, c .before .before .placed .ensures, c .before .before .before .before .before .wait-value .ensures, c .before .before .before .before .before .before .elapsed .ensures, c .before .before .before .before .before .before .before .stamp-if .ensures, c .before .before .before .before .before .before .before .before .before .stamped .ensures, c .before .before .before .before .before .before .before .before .before .before .with-phy .ensures)
+returns c = rw (c .asked .ensures, c .before .waited .ensures, c .before .before .placed .ensures, c .before .before .before .wait-value .ensures, c .before .before .before .before .elapsed .ensures, c .before .before .before .before .before .stamp-if .ensures, c .before .before .before .before .before .before .before .stamped .ensures, c .before .before .before .before .before .before .before .before .with-phy .ensures)
 
 pub opening-spec : {M : Type 1} → statement M
 opening-spec =
@@ -40,5 +41,5 @@ opening-spec =
     wait-value-requires
     placed-requires
     waited-requires
-    no-loss-requires
+    asked-requires
     returns)

@@ -32,8 +32,8 @@ use denote.Triple.Clauses.{Clauses, Ended, ensured, lasts, closing}
 use denote.Triple.Walked.{says}
 use denote.Exit.{yes}
 use Rattle.port_parts.specs.declared.Request.{Request}
-use Rattle.port.proofs.Arg.{Arg}
-use Rattle.port.proofs.Rec.{R}
+use Rattle.port_walks.proofs.Arg.{Arg}
+use Rattle.port_walks.proofs.Rec.{R}
 
 -- a call that asks nothing of the context and answers v
 module _ {M : Type 1} {𝓤 : URA M} {H : Heap 𝓤} {A : Atoms 𝓤} {K : Type 0} {W : Given 𝓤 H A} {Γ : List (Item 𝓤)} {E : Env 𝓤 H} {C : Calls 𝓤 H} {f : Name} {xs : List Operand} {Λ : Loops 𝓤 H} {q : Post 𝓤 H} {d : Place} where

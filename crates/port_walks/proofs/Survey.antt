@@ -51,10 +51,10 @@ use denote.Exit.{yes}
 use Rattle.port_parts.specs.declared.Request.{Request}
 use Rattle.laws.specs.Folds.{foldTo}
 use Rattle.port_parts.specs.Parts.{blank}
-use Rattle.port.proofs.Turns.{below-or-not}
-use Rattle.port.proofs.Rec.{R, request, mach, vals, tells, copy as copies, place-fits, stride}
-use Rattle.port.proofs.Arg.{Arg, number}
-use Rattle.port.proofs.Callees.{gives1, gives2, gives5, calls1, calls2, calls5, looks, scans}
+use Rattle.port_walks.proofs.Turns.{below-or-not}
+use Rattle.port_walks.proofs.Rec.{R, request, mach, vals, tells, copy as copies, place-fits, stride}
+use Rattle.port_walks.proofs.Arg.{Arg, number}
+use Rattle.port_walks.proofs.Callees.{gives1, gives2, gives5, calls1, calls2, calls5, looks, scans}
 
 -- ---- the MIR
 module _ (ρ α ξ θ φ : Ty) (#start #key #scan #joins : Name) where

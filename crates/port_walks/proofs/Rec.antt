@@ -15,7 +15,7 @@ use denote.Laws.{Is, Tells, Makes, Lawful, Copy}
 use denote.Slice.{Room}
 use denote.Struct.Laws as LL
 use Rattle.port_parts.specs.declared.Request.{Request}
-use Rattle.port.proofs.Arg.{Arg}
+use Rattle.port_walks.proofs.Arg.{Arg}
 use Rattle.port_parts.proofs.Request as T
 use Rattle.port_parts.proofs.Request.Laws as T′
 

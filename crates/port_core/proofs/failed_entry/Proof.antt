@@ -1,0 +1,18 @@
+use borrow.Author.Needs.{needs}
+use Rattle.port_core.proofs.failed_entry.Statement.{statement}
+use Rattle.port_core.proofs.failed_entry.Tie as tie
+
+again-requires : tie.Need-again-requires
+again-requires c κs = search needs
+
+returns : tie.Need-returns
+returns c = rw (c .again .ensures, c .before .if1 .taken)
+
+freed-requires : tie.Need-freed-requires
+freed-requires c κs = search needs
+
+returns-2 : tie.Need-returns-2
+returns-2 c = rw (c .freed .ensures, c .before .if1 .left)
+
+pub failed-entry-spec : {M : Type 1} → statement M
+failed-entry-spec = tie.close (tie.spec again-requires returns freed-requires returns-2)
