@@ -19,7 +19,7 @@ use Rattle.port_rows.specs.Calls.{again}
 use Rattle.runs.specs.Output.{outputOf}
 use Rattle.runs.specs.Listing.{listed as listed-bytes, printed}
 use Rattle.runs.proofs.Listing.{listing as text-is}
-use Rattle.claims.proofs.Priority.{not-higher}
+use Rattle.open_frame.proofs.Priority.{neither}
 
 -- an OPEN frame with this AWT and source, whatever its other fields
 abbrev frame : Head → ℕ → ℕ → ℕ → OpenFrame
@@ -64,7 +64,7 @@ examples = record {
   p5 = refl;
   p6 = refl;
   p7 = λ h k p q source larger l. refl;
-  p8 = λ h k p q awt source. not-higher (frame h p awt source) (frame k q awt source) (record { awt = refl; source = refl });
+  p8 = λ h k p q awt source. neither (frame h p awt source) (frame k q awt source) refl refl;
   p9 = λ r now t e. ap (λ (n : ℕ). min (n + 1) 255) e;
   p10 = listing-is;
   p10-text = text-is;

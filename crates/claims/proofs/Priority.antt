@@ -1,16 +1,15 @@
 -- Priority is a strict order on (AWT, source): the two numbers are compared one after the other, and between lists of one length
 -- the first place at which they differ decides for both sides. Assumes nothing.
-use mathlib.Core.Bool.{Bool, true, false}
+use mathlib.Core.Bool.{true, false}
 use mathlib.Core.List.{List, [], _∷_}
 use mathlib.Core.Logic.{_⊎_, inl, inr}
 use mathlib.Core.Path.{_≡_, refl, sym, ap, _∙_}
 use Prim.Native.Nat.{ℕ}
 use lib.ListN.{getD}
-use Rattle.laws.specs.Order.{larger}
-use Rattle.laws.proofs.Order.{Compared, above, below, equal, irrefl}
+use Rattle.laws.proofs.Order.{Compared, above, below, equal}
 use Rattle.open_frame.specs.Priority.{priorityOf, higherThan}
 use Rattle.open_frame.specs.declared.OpenFrame.{OpenFrame}
-use Rattle.open_frame.proofs.Priority.{never-both, trans, one-is}
+use Rattle.open_frame.proofs.Priority.{never-both, trans, one-is, neither}
 use Rattle.claims.proofs.Calls.{Outcome, Higher}
 
 -- AWT and source agree
@@ -35,18 +34,8 @@ pub record Priority : Type 0 where
 swapped : (c d : Higher) → Crossing c d → d .answer ≡ higherThan (c .args .1 .0) (c .args .0)
 swapped c d e = d .met ∙ (λ i. higherThan (sym (e .1) i) (sym (e .0) i))
 
-same : (f g : OpenFrame) → Agree f g → priorityOf f ≡ priorityOf g
-same f g e = λ i. e .awt i ∷ e .source i ∷ []
-
 agree : (f g : OpenFrame) → priorityOf f ≡ priorityOf g → Agree f g
 agree f g e = record { awt = ap (λ (l : List ℕ). getD l 0 0) e; source = ap (λ (l : List ℕ). getD l 1 0) e }
-
-pub not-higher : (f g : OpenFrame) → Agree f g → higherThan f g ≡ false
-not-higher f g e = by (higherThan f g) refl
-  where
-    by : (t : Bool) → higherThan f g ≡ t → t ≡ false
-    by true h = absurd (irrefl (priorityOf g) (ap (λ (l : List ℕ). larger l (priorityOf g)) (sym (same f g e)) ∙ h))
-    by false h = refl
 
 one-of : (c d : Higher) → Crossing c d → (Agree (c .args .0) (c .args .1 .0) → ⊥) → Compared (priorityOf (c .args .0)) (priorityOf (c .args .1 .0)) → (c .answer ≡ true) ⊎ (d .answer ≡ true)
 one-of c d e off (above h) = inl (c .met ∙ h)
@@ -57,6 +46,6 @@ pub priority : Priority
 priority = record {
   never = λ c d e p q. never-both (c .args .0) (c .args .1 .0) (sym (c .met) ∙ p) (sym (swapped c d e) ∙ q);
   one = λ c d e off. one-of c d e off (one-is (c .args .0) (c .args .1 .0));
-  neither = λ c e. c .met ∙ not-higher (c .args .0) (c .args .1 .0) e;
+  neither = λ c e. c .met ∙ neither (c .args .0) (c .args .1 .0) (e .awt) (e .source);
   transitive = λ c d e f g h p q. e .met ∙ (λ i. higherThan (sym g i) (sym h i)) ∙ trans (c .args .0) (c .args .1 .0) (d .args .1 .0) (sym (c .met) ∙ p) ((λ i. higherThan (f i) (d .args .1 .0)) ∙ sym (d .met) ∙ q);
 }

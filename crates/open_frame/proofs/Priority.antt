@@ -1,7 +1,11 @@
 -- Priority compares lists of one length by `larger`, so it is the strict order that the lists have. Assumes nothing.
-use mathlib.Core.Path.{_≡_, refl}
-use mathlib.Core.Bool.{true}
-use Rattle.laws.proofs.Order.{Compared, compared}
+use mathlib.Core.Path.{_≡_, refl, _∙_}
+use mathlib.Core.Bool.{true, false}
+use mathlib.Core.List.{[], _∷_}
+use borrow.Author.Tests.{not-true}
+use Rattle.laws.specs.Order.{larger}
+use Rattle.laws.proofs.Order.{Compared, compared, irrefl}
+use Rattle.laws.proofs.Tests.{itself, unless}
 use Rattle.laws.proofs.Order as order
 use Rattle.open_frame.specs.Priority.{priorityOf, higherThan}
 use Rattle.open_frame.specs.declared.OpenFrame.{OpenFrame}
@@ -16,3 +20,7 @@ trans f g h = order.trans (priorityOf f) (priorityOf g) (priorityOf h)
 -- one is, unless AWT and source agree
 pub one-is : (f g : OpenFrame) → Compared (priorityOf f) (priorityOf g)
 one-is f g = compared (priorityOf f) (priorityOf g) refl
+
+-- and where they agree, neither
+pub neither : (f g : OpenFrame) → f .awt .0 ≡ g .awt .0 → f .head .source ≡ g .head .source → higherThan f g ≡ false
+neither f g awt source = not-true (higherThan f g) (unless (itself (higherThan f g)) .1 (λ high. irrefl (priorityOf f) ((λ i. larger (priorityOf f) (awt i ∷ source i ∷ [])) ∙ high)))

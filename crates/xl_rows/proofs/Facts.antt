@@ -4,12 +4,10 @@ use Prim.Native.Nat.{ℕ}
 use mathlib.Core.Bool.{Bool, true, false, not, cond, _&&_, _||_}
 use mathlib.Core.List.{List, [], _∷_}
 use mathlib.Core.Path.{_≡_, refl, ap, _∙_}
-use borrow.Author.Tests.{eq-eqb, not-true}
-use Rattle.laws.specs.Order.{larger}
+use borrow.Author.Tests.{eq-eqb}
 use Rattle.laws.proofs.Bools.{never, and-true}
-use Rattle.laws.proofs.Order.{irrefl}
-use Rattle.laws.proofs.Tests.{itself, unless}
-use Rattle.open_frame.specs.Priority.{priorityOf, higherThan}
+use Rattle.open_frame.proofs.Priority.{neither}
+use Rattle.open_frame.specs.Priority.{higherThan}
 use Rattle.open_frame.specs.declared.OpenFrame.{OpenFrame}
 use Rattle.xl_parts.specs.declared.Phase.{Phase}
 use Rattle.xl_parts.specs.declared.Reject.{Reject}
@@ -31,7 +29,7 @@ use Rattle.xl_rows.proofs.Crossing.{unmoved}
 abbrev pub link : Phase → Memory → ℕ → State
 link p m n = record { phase = p; memory = m; count = n }
 
--- of three, the second is picked if one of the first two tests is passed, and the third
+-- the middle of three, where a or b holds, and t
 picked : {A : Type 0} (a b t : Bool) (stays back on : A) → a || b ≡ true → t ≡ true → cond (not a && not b) stays (cond t back on) ≡ back
 picked true b t stays back on e p = ap (λ (u : Bool). cond u back on) p
 picked false true t stays back on e p = ap (λ (u : Bool). cond u back on) p
@@ -60,7 +58,7 @@ module _ (m : Memory) (n : ℕ) where
     pub equal-does-nothing : m .aip ≡ Seen.Never → g .awt .0 ≡ f .awt .0 → g .head .source ≡ f .head .source → takes g (Event.Line Primitive.Open) (link Phase.Xl6 (holds f m) n) ≡ stay [] (link Phase.Xl6 (holds f m) n)
     equal-does-nothing never-seen awt source =
         unmoved (link Phase.Xl6 (holds f m) n) f g refl never-seen
-        (not-true (higherThan g f) (unless (itself (higherThan g f)) .1 (λ high. irrefl (priorityOf g) ((λ i. larger (priorityOf g) (awt i ∷ source i ∷ [])) ∙ high))))
+        (neither g f awt source)
 
     -- 01 XL.32: one that backs off, and comes back on the path of f, goes to XL2 with BackoffReversePath and no SendOpen
     pub reverse-sends-no-open : seen (m .aip) || higherThan g f ≡ true → g .head .destination ≡ f .head .source → g .head .rate ≡ f .head .rate → takes g (Event.Line Primitive.Open) (link Phase.Xl6 (holds f m) n) ≡ record { state = entered Phase.Xl2 (link Phase.Xl6 (holds g m) n); actions = Action.Send Message.BackoffReversePath ∷ [] }
