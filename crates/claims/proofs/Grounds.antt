@@ -1,14 +1,15 @@
 -- Each test of a frame's lengths or fields is true exactly if the proposition in document 01's words holds. Assumes nothing.
-use Prim.Native.Nat.{ℕ, _<_}
+use Prim.Native.Nat.{ℕ}
 use mathlib.Core.Bool.{true, _&&_}
 use mathlib.Core.List.{List}
 use mathlib.Core.Logic.{_↔_}
 use mathlib.Core.Path.{_≡_}
 use native.Mathlib.Omega.{arith}
 use lib.Dec.{eqb, leb}
-use lib.ListN.{length, getD}
+use lib.ListN.{length}
 use borrow.Author.Tests.{eqb-true, eq-eqb, leb-true, le-leb}
 use Rattle.laws.proofs.Bools.{and-left, and-right, and-true}
+use Rattle.laws.proofs.Tests.{equal}
 use Rattle.wire.proofs.Laws.{zero-bytes, bytes-zero}
 use Rattle.open_frame.specs.Open.{headOf, headListed, typed}
 use Rattle.open_frame.specs.declared.Head.{Head}
@@ -20,7 +21,7 @@ use Rattle.ssp_frame.proofs.Fields as ssp
 use Rattle.claims.specs.Causes.{Bytes, OpenBytes, OpenFields, DataLengths, DataFields, DataLength, DataBytes, NextLengths}
 
 pub open-length : (s : List ℕ) → (eqb (length s) 28 ≡ true) ↔ (length s ≡ 28)
-open-length s = (eqb-true (length s) 28, eq-eqb (length s) 28)
+open-length s = equal (length s) 28
 
 -- initiator and features of a byte are in range by themselves
 pub open-bytes : (s : List ℕ) → Bytes s → (typed s && headListed (headOf s) ≡ true) ↔ OpenBytes s

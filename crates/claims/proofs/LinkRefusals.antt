@@ -1,18 +1,18 @@
 -- A call of a link answers refusal k exactly if k is the first of document 01's causes that holds, and then leaves the state and does
 -- nothing: each of its tests decides one cause. Assumes nothing.
 use Prim.Native.Nat.{ℕ}
-use mathlib.Core.Bool.{Bool, true, false, not, _&&_, _||_}
+use mathlib.Core.Bool.{Bool, true, false, not, _&&_}
 use mathlib.Core.List.{List, [], _∷_, _++_}
 use mathlib.Core.Logic.{_↔_, inl, inr}
 use mathlib.Core.Path.{_≡_, refl, sym, ap, _∙_}
 use native.Mathlib.Omega.{arith}
-use lib.ListN.{length}
 use borrow.Author.Tests.{not-false}
 use denote.Ref.{now}
-use Rattle.laws.proofs.Bools.{never, and-left, and-right, and-true}
+use Rattle.laws.proofs.Bools.{never, and-right, impossible}
+use Rattle.laws.proofs.Tests.{Says, both, implies, unless, means}
 use Rattle.refusals.specs.Causes.{Cause, Ground, _when_, refuse, First, Decides, nil, cons}
 use Rattle.refusals.specs.declared.Refusal.{Refusal}
-use Rattle.refusals.proofs.Causes.{Verdict, stopped, passes, verdict, NoneGiven, only, if-first, through, negated, refuse-append}
+use Rattle.refusals.proofs.Causes.{Verdict, stopped, passes, verdict, NoneGiven, only, if-first, through, refuse-append}
 use Rattle.open_frame.specs.Open.{headListed, headOf, frameOf, typed, readCauses, readOpen}
 use Rattle.open_frame.specs.declared.OpenFrame.{OpenFrame}
 use Rattle.open_frame.specs.declared.OpenRead.{OpenRead}
@@ -37,23 +37,20 @@ use Rattle.claims.specs.Links.{Brings, Working, in1, in2, in3, in4, in5,
 use Rattle.claims.proofs.Calls.{Step, Receive, Status}
 use Rattle.claims.proofs.Grounds.{open-length, open-bytes, open-fields}
 
-no : {A : Type 0} → false ≡ true → A
-no e = absurd (never e)
-
 line-brings : (p : Primitive) → framed (Event.Line p) ≡ true → Brings (Event.Line p)
 line-brings Primitive.Open e = inl refl
-line-brings Primitive.OpenAccept e = no e
-line-brings (Primitive.OpenReject k) e = no e
-line-brings (Primitive.Aip w) e = no e
-line-brings Primitive.Close e = no e
+line-brings Primitive.OpenAccept e = impossible e
+line-brings (Primitive.OpenReject k) e = impossible e
+line-brings (Primitive.Aip w) e = impossible e
+line-brings Primitive.Close e = impossible e
 
 router-brings : (m : Message) → framed (Event.Router m) ≡ true → Brings (Event.Router m)
 router-brings Message.SendOpen e = inr (inl refl)
-router-brings Message.SendClose e = no e
-router-brings (Message.ArbStatus w) e = no e
-router-brings Message.OpenAccept e = no e
-router-brings (Message.OpenReject k) e = no e
-router-brings Message.BackoffRetry e = no e
+router-brings Message.SendClose e = impossible e
+router-brings (Message.ArbStatus w) e = impossible e
+router-brings Message.OpenAccept e = impossible e
+router-brings (Message.OpenReject k) e = impossible e
+router-brings Message.BackoffRetry e = impossible e
 router-brings Message.BackoffReversePath e = inr (inr refl)
 
 brings : (e : Event) → (framed e ≡ true) ↔ Brings e
@@ -62,10 +59,10 @@ brings e = (there e, back)
     there : (e : Event) → framed e ≡ true → Brings e
     there (Event.Line p) h = line-brings p h
     there (Event.Router m) h = router-brings m h
-    there (Event.Manager c) h = no h
-    there (Event.Own n) h = no h
-    there (Event.Break b) h = no h
-    there Event.Disable h = no h
+    there (Event.Manager c) h = impossible h
+    there (Event.Own n) h = impossible h
+    there (Event.Break b) h = impossible h
+    there Event.Disable h = impossible h
 
     back : Brings e → framed e ≡ true
     back (inl h) = ap framed h
@@ -76,17 +73,17 @@ working : (p : Phase) → (works p ≡ true) ↔ Working p
 working p = (there p, back p)
   where
     there : (p : Phase) → works p ≡ true → Working p
-    there Phase.Xl0 e = no e
+    there Phase.Xl0 e = impossible e
     there Phase.Xl1 e = in1
     there Phase.Xl2 e = in2
     there Phase.Xl3 e = in3
     there Phase.Xl4 e = in4
     there Phase.Xl5 e = in5
     there Phase.Xl6 e = in6
-    there Phase.Xl7 e = no e
-    there Phase.Xl8 e = no e
-    there Phase.Xl9 e = no e
-    there Phase.Xl10 e = no e
+    there Phase.Xl7 e = impossible e
+    there Phase.Xl8 e = impossible e
+    there Phase.Xl9 e = impossible e
+    there Phase.Xl10 e = impossible e
 
     back : (p : Phase) → Working p → works p ≡ true
     back Phase.Xl1 in1 = refl
@@ -101,39 +98,21 @@ fields Held.Nothing = (λ e. tt, λ h. refl)
 fields (Held.Frame f) = open-fields (f .head)
 
 -- XL1 to XL6 hold a frame
-needs : (w : Bool) (h : Held) → not w || isFrame h ≡ true → w ≡ true → h ≡ Held.Nothing → ⊥
-needs true h e q n = never (ap isFrame (sym n) ∙ e)
-needs false h e q n = never q
+frame-held : (h : Held) → Says (isFrame h) (h ≡ Held.Nothing → ⊥)
+frame-held Held.Nothing = (impossible, λ n. absurd (n refl))
+frame-held (Held.Frame f) = (λ e n. never (sym (ap isFrame n)), λ n. refl)
 
-meets : (w : Bool) (h : Held) → (w ≡ true → h ≡ Held.Nothing → ⊥) → not w || isFrame h ≡ true
-meets true Held.Nothing n = absurd (n refl refl)
-meets true (Held.Frame f) n = refl
-meets false h n = refl
-
-rules-say : (s : State) → (rules s ≡ true) ↔ Rules s
+rules-say : (s : State) → Says (rules s) (Rules s)
 unfolding rules
-rules-say s = (there, back)
-  where
-    there : fielded (s .memory .held) && (fielded (s .memory .heard) && (not (works (s .phase)) || isFrame (s .memory .held))) ≡ true → Rules s
-    there e =
-        let rest = and-right (fielded (s .memory .held)) _ e in
-        record {
-          held = fields (s .memory .held) .0 (and-left (fielded (s .memory .held)) _ e);
-          remembered = fields (s .memory .heard) .0 (and-left (fielded (s .memory .heard)) _ rest);
-          holds = λ w. needs (works (s .phase)) (s .memory .held) (and-right (fielded (s .memory .heard)) _ rest) (working (s .phase) .1 w);
-        }
-
-    back : Rules s → fielded (s .memory .held) && (fielded (s .memory .heard) && (not (works (s .phase)) || isFrame (s .memory .held))) ≡ true
-    back r = and-true (fields (s .memory .held) .1 (r .held)) (and-true (fields (s .memory .heard) .1 (r .remembered)) (meets (works (s .phase)) (s .memory .held) (λ w. r .holds (working (s .phase) .0 w))))
-
-both : {a b : Bool} {P Q : Type 0} → (a ≡ true) ↔ P → (b ≡ true) ↔ Q → (a && b ≡ true) ↔ (P × Q)
-both {a} {b} {P} {Q} p q = (λ e. (p .0 (and-left a b e), q .0 (and-right a b e)), λ (h : P × Q). and-true (p .1 (h .0)) (q .1 (h .1)))
+rules-say s =
+    means (both (fields (s .memory .held)) (both (fields (s .memory .heard)) (implies (working (s .phase)) (frame-held (s .memory .held)))))
+    (λ h. record { held = h .0; remembered = h .1 .0; holds = h .1 .1 }, λ r. (r .held, r .remembered, r .holds))
 
 broken : (s : State) → (not (rules s) ≡ true) ↔ (Rules s → ⊥)
-broken s = negated (rules-say s)
+broken s = unless (rules-say s)
 
 step-decides : (f : OpenFrame) (e : Event) (s : State) → Decides (causes f e s) (stepGrounds f e s)
-step-decides f e s = cons (both (brings e) (negated (open-fields (f .head)))) (cons (broken s) nil)
+step-decides f e s = cons (both (brings e) (unless (open-fields (f .head)))) (cons (broken s) nil)
 
 -- what is claimed of a call with these grounds: a refusal gives only its number
 pub record Refuses (gs : List Ground) (s : State) (r : Stepped) : Type 1 where
@@ -187,7 +166,7 @@ receive-is b s =
 
 receive-refuses : (b : List ℕ) (s : State) (r : Stepped) → Bytes b → r ≡ receiveOf b s → Refuses (receiveGrounds b s) s r
 receive-refuses b s r small is =
-    refuses s (receiveCauses b s) (receiveGrounds b s) (cons (negated (open-length b)) (cons (negated (open-bytes b small)) (cons (broken s) nil)))
+    refuses s (receiveCauses b s) (receiveGrounds b s) (cons (unless (open-length b)) (cons (unless (open-bytes b small)) (cons (broken s) nil)))
     (done (takes (frameOf b) (Event.Line Primitive.Open) s)) r refl (is ∙ receive-is b s)
 
 link-one : (j k : Refusal) → LinkStatus.Refused j ≡ LinkStatus.Refused k → j ≡ k

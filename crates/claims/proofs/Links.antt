@@ -7,6 +7,7 @@ use mathlib.Core.Path.{_≡_, ap, _∙_}
 use native.Mathlib.Omega.{arith}
 use lib.ListN.{length}
 use denote.Ref.{now}
+use Rattle.laws.proofs.Bools.{impossible, or-left, or-right}
 use Rattle.open_frame.specs.Open.{openBytes, notCarried, cleared, readOpen, headListed}
 use Rattle.open_frame.specs.Priority.{higherThan}
 use Rattle.open_frame.specs.declared.OpenFrame.{OpenFrame}
@@ -22,8 +23,8 @@ use Rattle.xl_parts.specs.declared.Seen.{Seen}
 use Rattle.xl_parts.specs.declared.State.{State}
 use Rattle.xl_parts.specs.declared.Answer.{Answer}
 use Rattle.xl_parts.specs.Parts.{Effect, ready, nothing, packed, stay, first, entry, entered, forgets, remembering, done}
-use Rattle.xl_rows.specs.Table.{backoff, takes}
-use Rattle.xl_rows.proofs.Crossing.{unmoved, moved, moved-higher}
+use Rattle.xl_rows.specs.Table.{seen as isSeen, backoff, takes}
+use Rattle.xl_rows.proofs.Crossing.{unmoved, moved}
 use Rattle.xl.specs.Rules.{rules}
 use Rattle.xl.specs.Steps.{stepOf}
 use Rattle.xl.specs.Status.{statusOf}
@@ -97,10 +98,7 @@ pub record Links : Type 0 where
   pub disables : (s : State) (f : OpenFrame) → rules s ≡ true → stepOf f Event.Disable s ≡ record { answer = Answer.Done; state = record { phase = Phase.Xl0; memory = nothing; count = s .count }; actions = packed [] }
 
 new : Good (λ f. In f []) ready
-new = record { held = tt; heard = tt; holds = λ e. e-not e }
-  where
-    e-not : {A : Type 0} → false ≡ true → A
-    e-not e = let z : _≡_ {A = ℕ} 0 1 = cc in absurd (omega arith)
+new = record { held = tt; heard = tt; holds = impossible }
 
 pub links : Links
 unfolding callOf
@@ -117,10 +115,10 @@ links = record {
   at-most-four = λ cs f e d. few-done (after cs) (kept cs ready ready-keeps) f e d;
   remembers-aip = λ cs e. remembers cs e;
   stands = λ cs f g x never low. opens-in-6 (after cs) g (kept cs ready ready-keeps) (x .phase) (x .fields) ∙ ap done (unmoved (after cs) f g (x .transmitted) (remembers cs (x .phase) ∙ never) low);
-  overtakes = λ cs f g x high. opens-in-6 (after cs) g (kept cs ready ready-keeps) (x .phase) (x .fields) ∙ ap done (moved-higher (after cs) f g (x .transmitted) high);
-  yields = λ cs f g w x seen. opens-in-6 (after cs) g (kept cs ready ready-keeps) (x .phase) (x .fields) ∙ ap done (moved (after cs) f g (x .transmitted) w (remembers cs (x .phase) ∙ seen));
+  overtakes = λ cs f g x high. opens-in-6 (after cs) g (kept cs ready ready-keeps) (x .phase) (x .fields) ∙ ap done (moved (after cs) f g (x .transmitted) (or-right _ high));
+  yields = λ cs f g w x seen. opens-in-6 (after cs) g (kept cs ready ready-keeps) (x .phase) (x .fields) ∙ ap done (moved (after cs) f g (x .transmitted) (or-left _ (ap isSeen (remembers cs (x .phase) ∙ seen))));
   sends-on = λ cs e f g x low. sent-in-5 (after cs) e g (kept cs ready ready-keeps) (x .phase) (x .unbroken) (x .remembered) ∙ ap (λ (y : Effect). done (first (entry Phase.Xl6) y)) (unmoved (forgotten (after cs)) f g (x .transmitted) (none-in-5 cs (x .phase)) low);
-  sends-back = λ cs e f g x high. sent-in-5 (after cs) e g (kept cs ready ready-keeps) (x .phase) (x .unbroken) (x .remembered) ∙ ap (λ (y : Effect). done (first (entry Phase.Xl6) y)) (moved-higher (forgotten (after cs)) f g (x .transmitted) high);
+  sends-back = λ cs e f g x high. sent-in-5 (after cs) e g (kept cs ready ready-keeps) (x .phase) (x .unbroken) (x .remembered) ∙ ap (λ (y : Effect). done (first (entry Phase.Xl6) y)) (moved (forgotten (after cs)) f g (x .transmitted) (or-right _ high));
   path-left = λ s c. released-call s c;
   disables = λ s f e. disabled s e f;
 }

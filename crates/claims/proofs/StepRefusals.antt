@@ -1,16 +1,17 @@
 -- A call on a transfer answers refusal k exactly if k is the first of document 01's causes that holds, and then leaves the state and
 -- every lent byte: each of its tests decides one cause. Assumes nothing.
-use Prim.Native.Nat.{ℕ, _≤_}
-use mathlib.Core.Bool.{true, not}
+use Prim.Native.Nat.{ℕ}
+use mathlib.Core.Bool.{true}
 use mathlib.Core.List.{List, [], _∷_, _++_}
 use mathlib.Core.Logic.{_↔_}
 use mathlib.Core.Path.{_≡_, sym, ap, _∙_}
 use native.Mathlib.Omega.{arith}
 use lib.ListN.{length, drop}
 use denote.Ref.{now}
+use Rattle.laws.proofs.Tests.{unless}
 use Rattle.refusals.specs.Causes.{Ground, _if_, refuse, First, Decides, nil, cons}
 use Rattle.refusals.specs.declared.Refusal.{Refusal}
-use Rattle.refusals.proofs.Causes.{only, if-first, stays, through, negated, decides-append}
+use Rattle.refusals.proofs.Causes.{only, if-first, stays, through, decides-append}
 use Rattle.ssp_frame.specs.Data.{frameEnd, dataBytes}
 use Rattle.ssp_frame.specs.declared.data.DataHead.{DataHead}
 use Rattle.transfer.specs.Steps.{bound64, frameLength, framed, refused}
@@ -20,10 +21,10 @@ use Rattle.transfer.specs.History.{isRefused}
 use Rattle.transfer.specs.declared.Transfer.{Transfer}
 use Rattle.transfer.specs.declared.Stepped.{Stepped}
 use Rattle.transfer.specs.declared.Answer.{Answer}
-use Rattle.transfer.proofs.Refusals.{causesOf, decides, refused-exactly, refused-kept}
+use Rattle.transfer.proofs.Refusals.{causesOf, decides, one, refused-exactly, refused-kept}
 use Rattle.send.specs.Send.{headOf, nextCauses, nextStep, nextBytes, Went}
 use Rattle.claims.specs.Causes.{DataFields, NextLengths}
-use Rattle.claims.proofs.Calls.{Outcome, NextFrame}
+use Rattle.claims.proofs.Calls.{NextFrame}
 use Rattle.claims.proofs.Grounds.{data-fields, next-lengths}
 
 -- 01 REFUSAL.11
@@ -32,9 +33,6 @@ abbrev pub nextGrounds : ℕ → Transfer → DataHead → List ℕ → List ℕ
 nextGrounds bound s h body out =
     groundsOf bound Call.frame s
     ++ ((Refusal.Unlisted if (DataFields h → ⊥)) ∷ (Refusal.Length if (NextLengths (frameLength s) (length body) (length out) → ⊥)) ∷ [])
-
-one : (j k : Refusal) → Answer.Refused j ≡ Answer.Refused k → j ≡ k
-one j k e = cc
 
 sent-apart : (k : Refusal) → Answer.Sent ≡ Answer.Refused k → ⊥
 sent-apart k e = let z : _≡_ {A = ℕ} 0 1 = cc in omega arith
@@ -49,7 +47,7 @@ module _ (s : Transfer) (h : DataHead) (body out : List ℕ) where
   unfolding causesOf
   next-decides =
       decides-append (decides bound64 (omega arith) s Call.frame)
-      (cons (negated (data-fields h)) (cons (negated (next-lengths (frameLength s) (length body) (length out))) nil))
+      (cons (unless (data-fields h)) (cons (unless (next-lengths (frameLength s) (length body) (length out))) nil))
 
   answer-is : nextStep bound64 s h body out .answer ≡ refuse Answer.Refused (nextCauses bound64 s h body out) Answer.Sent
   unfolding nextStep

@@ -151,10 +151,10 @@ use Rattle.port_parts.proofs.timer_after.Kinds as port-timer-after-of
 use Rattle.port_parts.proofs.timer_after.Reads as port-timer-after
 use Rattle.port_parts.proofs.is_lost.Kinds as port-is-lost-of
 use Rattle.port_parts.proofs.is_lost.Reads as port-is-lost
-use Rattle.port_rules.proofs.in_range.Kinds as port-in-range-of
-use Rattle.port_rules.proofs.in_range.Reads as port-in-range
-use Rattle.port_rules.proofs.has_frame_out.Kinds as port-has-frame-out-of
-use Rattle.port_rules.proofs.has_frame_out.Reads as port-has-frame-out
+use Rattle.port_parts.proofs.in_range.Kinds as port-in-range-of
+use Rattle.port_parts.proofs.in_range.Reads as port-in-range
+use Rattle.port_parts.proofs.has_frame_out.Kinds as port-has-frame-out-of
+use Rattle.port_parts.proofs.has_frame_out.Reads as port-has-frame-out
 use Rattle.port_rules.proofs.port_rule.Kinds as port-port-rule-of
 use Rattle.port_rules.proofs.port_rule.Reads as port-port-rule
 use Rattle.port_rules.proofs.request_rule.Kinds as port-request-rule-of

@@ -11,7 +11,7 @@ use lib.Dec.{eqb}
 use lib.ListN.{getD}
 use borrow.Author.Tests.{ne-eqb, eq-eqb}
 use Rattle.laws.specs.Folds.{foldTo}
-use Rattle.laws.proofs.Bools.{never}
+use Rattle.laws.proofs.Bools.{never, or-right}
 use Rattle.laws.proofs.Folds.{at-or-below}
 
 module _ {B : Type 0} (d : B) (t : B → Bool) (l : List B) where
@@ -61,12 +61,8 @@ module _ {B : Type 0} (d : B) (t : B → Bool) (l : List B) where
           by true e h = let s = some-of e in record { i = s .i; below = omega (arith, s .below); passes = s .passes }
           by false e h = record { i = n; below = omega arith; passes = h }
 
-      or-true : (b : Bool) → b || true ≡ true
-      or-true true = refl
-      or-true false = refl
-
       back : (Some n → before ≡ true) → Some (suc n) → before || t (getD l n d) ≡ true
       back of-some s = elim (at-or-below (s .i) n (s .below)) [
-        | inl z ↦ (λ k. before || subst (λ (m : ℕ). t (getD l m d) ≡ true) z (s .passes) k) ∙ or-true before
+        | inl z ↦ or-right before (subst (λ (m : ℕ). t (getD l m d) ≡ true) z (s .passes))
         | inr m ↦ λ k. of-some (record { i = s .i; below = m; passes = s .passes }) k || t (getD l n d)
       ]

@@ -40,11 +40,7 @@ and-assoc false b c = refl
 module _ (s : Bool) (t : ℕ → Bool) where
   pub all-start : s ≡ s && allBelow t 0
   unfolding allBelow
-  all-start = by s
-    where
-      by : (a : Bool) → a ≡ a && true
-      by true = refl
-      by false = refl
+  all-start = bools.and-alone s refl
 
   pub all-next : (n : ℕ) {a b : Bool} → a ≡ s && allBelow t n → b ≡ t n → a && b ≡ s && allBelow t (n + 1)
   unfolding allBelow
@@ -79,11 +75,7 @@ fold-still d f part same s l (suc n) = same (foldTo d f s l n) (getD l n d) n �
 pub fold-both : {B : Type 0} (d : B) (t u : B → ℕ → Bool) (s : Bool) (l : List B) (n : ℕ)
     → foldTo d (λ (a : Bool) b i. (a && t b i) && u b i) s l n ≡ foldTo d (λ (a : Bool) b i. a && t b i) s l n && foldTo d (λ (a : Bool) b i. a && u b i) true l n
 unfolding foldTo
-fold-both d t u s l zero = by s
-  where
-    by : (a : Bool) → a ≡ a && true
-    by true = refl
-    by false = refl
+fold-both d t u s l zero = bools.and-alone s refl
 fold-both d t u s l (suc n) = (λ i. (fold-both d t u s l n i && t (getD l n d) n) && u (getD l n d) n) ∙ by (foldTo d (λ (a : Bool) b i. a && t b i) s l n) (foldTo d (λ (a : Bool) b i. a && u b i) true l n) (t (getD l n d) n) (u (getD l n d) n)
   where
     by : (a b c e : Bool) → ((a && b) && c) && e ≡ (a && c) && (b && e)

@@ -1,11 +1,14 @@
 -- A joined test says what its parts say, joined. Assumes nothing.
-use Prim.Native.Nat.{ℕ, _≤_, _<_}
+use Prim.Native.Nat.{ℕ, _+_, _-_, _≤_, _<_}
 use mathlib.Core.Path.{_≡_, refl, sym, _∙_}
 use mathlib.Core.Bool.{Bool, true, false, not, _&&_, _||_}
 use mathlib.Core.Logic.{_⊎_, inl, inr, ⊎-elim, _↔_}
+use native.Mathlib.Decide.{decLt, decLe}
+use native.Mathlib.Omega.{arith}
 use lib.Dec.{ltb, leb, eqb}
-use borrow.Author.Tests.{ltb-true, leb-true, eqb-true, lt-ltb, le-leb, eq-eqb, not-true}
-use Rattle.laws.proofs.Bools.{never, and-left, and-right, and-true}
+use borrow.Author.Tests.{ltb-true, leb-true, eqb-true, eqb-false, lt-ltb, le-leb, lt-leb, eq-eqb, not-true}
+use Rattle.laws.proofs.Bools.{never, and-left, and-right, and-true, or-left, or-right, or-cases}
+use Rattle.laws.proofs.Bools as bools
 
 -- the test t is passed exactly if P
 abbrev pub Says : Bool → Type 0 → Type 0
@@ -26,14 +29,6 @@ itself t = (λ e. e, λ e. e)
 pub denied : (t : Bool) → Says (not t) (t ≡ false)
 denied t = (not-true t, λ (e : t ≡ false) i. not (e i))
 
-or-cases : (a b : Bool) → a || b ≡ true → (a ≡ true) ⊎ (b ≡ true)
-or-cases true b e = inl refl
-or-cases false b e = inr e
-
-or-right : (a b : Bool) → b ≡ true → a || b ≡ true
-or-right true b p = refl
-or-right false b p = p
-
 module _ {a b : Bool} {P Q : Type 0} (p : Says a P) (q : Says b Q) where
   pub both : Says (a && b) (P × Q)
   both = (λ e. (p .0 (and-left a b e), q .0 (and-right a b e)), λ (h : P × Q). and-true (p .1 (h .0)) (q .1 (h .1)))
@@ -41,23 +36,15 @@ module _ {a b : Bool} {P Q : Type 0} (p : Says a P) (q : Says b Q) where
   pub either : Says (a || b) (P ⊎ Q)
   either = (
     λ e. ⊎-elim (λ x. inl (p .0 x)) (λ y. inr (q .0 y)) (or-cases a b e),
-    ⊎-elim (λ (h : P). λ i. p .1 h i || b) (λ h. or-right a b (q .1 h)),
+    ⊎-elim (λ h. or-left b (p .1 h)) (λ h. or-right a (q .1 h)),
   )
 
   -- where the first says so the second does
   pub implies : Says (not a || b) (P → Q)
   implies = (
-    λ e h. q .0 (passed a b (p .1 h) e),
-    λ (h : P → Q). by a b (λ e. q .1 (h (p .0 e))),
+    λ e h. q .0 (bools.implied a b e (p .1 h)),
+    λ (h : P → Q). bools.implies a b (λ e. q .1 (h (p .0 e))),
   )
-    where
-      passed : (a b : Bool) → a ≡ true → not a || b ≡ true → b ≡ true
-      passed true b d e = e
-      passed false b d e = absurd (never d)
-
-      by : (a b : Bool) → (a ≡ true → b ≡ true) → not a || b ≡ true
-      by true b h = h refl
-      by false b h = refl
 
 -- where the first doesn't say so the second does
 pub failing : {a b : Bool} {P Q : Type 0} → Says a P → Says b Q → Says (a || b) ((P → ⊥) → Q)
@@ -69,11 +56,31 @@ failing {a} {b} {P} {Q} p q = (λ e off. ⊎-elim (λ x. absurd (off (p .0 x))) 
 
 -- a test negated says the contrary
 pub unless : {a : Bool} {P : Type 0} → Says a P → Says (not a) (P → ⊥)
-unless {a} p = (λ e h. never (sym (not-true a e) ∙ p .1 h), λ off. by a (λ e. off (p .0 e)))
+unless {a} p = (λ e h. bools.clash a (p .1 h) (not-true a e), λ off. by a (λ e. off (p .0 e)))
   where
     by : (a : Bool) → (a ≡ true → ⊥) → not a ≡ true
     by true h = absurd (h refl)
     by false h = refl
+
+-- a number is below another or not
+pub below-or-not : (m n : ℕ) → (m < n) ⊎ (n ≤ m)
+below-or-not m n = elim (decLt m n) [ yes l ↦ inl l | no d ↦ inr (omega arith) ]
+
+-- two numbers are one, or they aren't
+pub same-or-not : (m n : ℕ) → (m ≡ n) ⊎ (m ≡ n → ⊥)
+same-or-not m n = by (eqb m n) refl
+  where
+    by : (t : Bool) → eqb m n ≡ t → (m ≡ n) ⊎ (m ≡ n → ⊥)
+    by true e = inl (eqb-true m n e)
+    by false e = inr (eqb-false m n e)
+
+-- a test of a sum, as a test of a difference
+pub sum-test : (a b n : ℕ) → b ≤ n → leb a (n - b) ≡ leb (a + b) n
+sum-test a b n h =
+    elim (decLe (a + b) n) [
+      | yes l ↦ le-leb a (n - b) (omega arith) ∙ sym (le-leb (a + b) n l)
+      | no d ↦ lt-leb a (n - b) (omega arith) ∙ sym (lt-leb (a + b) n (omega arith))
+    ]
 
 -- a test that says something else by another law
 pub means : {t : Bool} {P Q : Type 0} → Says t P → P ↔ Q → Says t Q

@@ -20,7 +20,7 @@ use Rattle.refusals.specs.declared.Refusal.{Refusal}
 use Rattle.refusals.proofs.Causes as causes
 use Rattle.open_frame.specs.Open.{headListed}
 use Rattle.open_frame.specs.declared.Head.{Head}
-use Rattle.port_parts.specs.Parts.{blank, isFree, isWaiting, isSsp, isOpening, isDisabled}
+use Rattle.port_parts.specs.Parts.{blank, isFree, isWaiting, isSsp, isOpening, isDisabled, inRange, sameKey, names, hasFrameOut}
 use Rattle.port_parts.specs.Reasons.{reasons, reasonOf, isListed, isRetried}
 use Rattle.port_parts.specs.Timer.{isLost}
 use Rattle.port_parts.specs.declared.Pick.{Pick}
@@ -29,7 +29,7 @@ use Rattle.port_parts.specs.declared.Reason.{Reason}
 use Rattle.port_parts.specs.declared.Reason.the-variants.{Other}
 use Rattle.port_parts.specs.declared.Port.{Port}
 use Rattle.port_parts.specs.declared.Request.{Request}
-use Rattle.port_rules.specs.Rules.{inRange, rules, sameKey, names, hasFrameOut}
+use Rattle.port_rules.specs.Rules.{rules}
 use Rattle.port_rules.specs.Kept.{Kept, Free, SameKey}
 use Rattle.port_rules.proofs.Facts.{range-says, rules-say}
 use Rattle.port_rows.specs.Finds.{noRoom, roomStep, roomOf, hasKey, keyOf}

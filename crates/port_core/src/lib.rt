@@ -349,7 +349,7 @@ pub fn no_port() -> Port
 pub fn setup_core(count: u8, loss: u16) -> Done
     ensures { λ d. ⌜ d ≡ setupOf count loss ⌝ }
 {
-    if !port_rules::in_range(count, loss) {
+    if !port_parts::in_range(count, loss) {
         let none = no_port();
         return refused(none, Refusal::Rules);
     }
@@ -748,7 +748,7 @@ pub fn frame_status_core(p: Port, r: Request, kept: bool, x: Report) -> Done
     ensures { λ d. ⌜ d ≡ frameStatusOf p r kept x ⌝ }
 {
     let f = phy_at(p, x.phy);
-    let out = port_rules::has_frame_out(f);
+    let out = port_parts::has_frame_out(f);
     let c = phy_checked(p, kept, x.phy, x.now, !out);
     let d = framed(p, f, r, x);
     given(c, p, d)

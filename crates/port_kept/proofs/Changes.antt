@@ -2,14 +2,13 @@
 -- if they hold of that phy and that record: everything else is as it was. Assumes nothing.
 use Prim.Native.Nat.{ℕ, _≤_, _<_}
 use mathlib.Core.Path.{_≡_, refl, sym, subst, _∙_}
-use mathlib.Core.Bool.{Bool, true, false}
+use mathlib.Core.Bool.{true, false}
 use mathlib.Core.Logic.{_⊎_, inl, inr, _↔_}
 use mathlib.Core.List.{List}
 use native.Mathlib.Omega.{arith}
-use lib.Dec.{eqb}
 use lib.ListN.{length, getD}
 use lib.Seq.{getD-set-same, getD-set-other}
-use borrow.Author.Tests.{eqb-true, eqb-false}
+use Rattle.laws.proofs.Tests.{same-or-not}
 use Rattle.port_parts.specs.Parts.{noPhy, blank}
 use Rattle.port_parts.specs.declared.Phy.{Phy}
 use Rattle.port_parts.specs.declared.Port.{Port}
@@ -26,14 +25,6 @@ use Rattle.port.proofs.Begins.{left-here, left-there}
 use Rattle.port_kept.proofs.Holds.{Dated}
 use Rattle.port_kept.proofs.Links.{On, Linked}
 use Rattle.port_kept.proofs.Spreads.{apart-back, spread-stage, spread-phy, spread-present, spread-apart}
-
--- two numbers are one, or they aren't
-pub same-or : (a b : ℕ) → (a ≡ b) ⊎ (a ≡ b → ⊥)
-same-or a b = by (eqb a b) refl
-  where
-    by : (t : Bool) → eqb a b ≡ t → (a ≡ b) ⊎ (a ≡ b → ⊥)
-    by true e = inl (eqb-true a b e)
-    by false e = inr (eqb-false a b e)
 
 -- what a call leaves that stores the record e and changes the timer x
 abbrev pub stored : Port → Answer → Request → Loss → Done
@@ -84,14 +75,14 @@ module _ (p : Port) (l : List Request) where
     -- ---- each rule
 
     phys : (j : ℕ) → j < 8 → PhyKept (p .count) (phyAt port j) j
-    phys j h = by (same-or j k)
+    phys j h = by (same-or-not j k)
       where
         by : (j ≡ k) ⊎ (j ≡ k → ⊥) → PhyKept (p .count) (phyAt port j) j
         by (inl d) = subst (λ (n : ℕ). PhyKept (p .count) (phyAt port n) n) (sym d) (subst (λ (f : Phy). PhyKept (p .count) f k) (sym phy-here) (c .phy))
         by (inr n) = subst (λ (f : Phy). PhyKept (p .count) f j) (sym (phy-there j n)) (was .phys j h)
 
     entry-paired : i < 32 → Paired (port .phys) e i
-    entry-paired h = record { phy = c .linked .entry h .below; each = λ j m. by j m (same-or j k) }
+    entry-paired h = record { phy = c .linked .entry h .below; each = λ j m. by j m (same-or-not j k) }
       where
         by : (j : ℕ) → j < 8 → (j ≡ k) ⊎ (j ≡ k → ⊥) → (phyAt port j .slot ≡ i) ↔ On e j
         by j m (inl d) = subst (λ (n : ℕ). (phyAt port n .slot ≡ i) ↔ On e n) (sym d) (subst (λ (f : Phy). (f .slot ≡ i) ↔ On e k) (sym phy-here) (c .linked .entry h .pair))
@@ -101,7 +92,7 @@ module _ (p : Port) (l : List Request) where
             subst (λ (f : Phy). (f .slot ≡ i) ↔ On e j) (sym (phy-there j n)) (λ named. else .1 (old .0 named), λ on. old .1 (else .0 on))
 
     other-paired : (j : ℕ) → j < 32 → (j ≡ i → ⊥) → Paired (port .phys) (at j) j
-    other-paired j h n = record { phy = was .requests j h .paired .phy; each = λ m low. by m low (same-or m k) }
+    other-paired j h n = record { phy = was .requests j h .paired .phy; each = λ m low. by m low (same-or-not m k) }
       where
         by : (m : ℕ) → m < 8 → (m ≡ k) ⊎ (m ≡ k → ⊥) → (phyAt port m .slot ≡ j) ↔ On (at j) m
         by m low (inl d) =
@@ -123,7 +114,7 @@ module _ (p : Port) (l : List Request) where
     other-present j (inr held) = inr (spread-present x (at j) (p .last) now (c .time) (c .timer) held)
 
     requests : (j : ℕ) → j < 32 → RequestKept port (getD list j blank) j
-    requests j h = by (same-or j i)
+    requests j h = by (same-or-not j i)
       where
         by : (j ≡ i) ⊎ (j ≡ i → ⊥) → RequestKept port (getD list j blank) j
         by (inl d) =
@@ -148,7 +139,7 @@ module _ (p : Port) (l : List Request) where
     entry-beside low j h n off other = c .entered low .apart off j h n (still j other)
 
     apart : (m n : ℕ) → m < n → n < 32 → Beside (getD list m blank) (getD list n blank)
-    apart m n less low = by (same-or m i) (same-or n i)
+    apart m n less low = by (same-or-not m i) (same-or-not n i)
       where
         by : (m ≡ i) ⊎ (m ≡ i → ⊥) → (n ≡ i) ⊎ (n ≡ i → ⊥) → Beside (getD list m blank) (getD list n blank)
         by (inl d) (inl o) = absurd (omega arith)

@@ -12,14 +12,14 @@ use Rattle.laws.proofs.Bools.{never, nor, and-left}
 use Rattle.laws.proofs.Finds.{Found, none, at}
 use Rattle.refusals.proofs.Causes.{NoneGiven}
 use Rattle.open_frame.specs.Open.{headListed}
-use Rattle.port_parts.specs.Parts.{off, blank, isFree, isOpening, isDisabled}
+use Rattle.port_parts.specs.Parts.{off, blank, isFree, isOpening, isDisabled, inRange, hasFrameOut}
 use Rattle.port_parts.specs.Reasons.{reasonOf}
 use Rattle.port_parts.specs.declared.Phy.{Phy}
 use Rattle.port_parts.specs.declared.Pick.{Pick}
 use Rattle.port_parts.specs.declared.Port.{Port}
 use Rattle.port_parts.specs.declared.Request.{Request}
 use Rattle.port_parts.proofs.Choices.{choose-right}
-use Rattle.port_rules.specs.Rules.{inRange, rules, hasFrameOut}
+use Rattle.port_rules.specs.Rules.{rules}
 use Rattle.port_rules.specs.Kept.{Free}
 use Rattle.port_rules.proofs.Facts.{range-says}
 use Rattle.port_rows.specs.Calls.{phyAt, isCancelled, isJoined, cancelled, chosen, phyCauses}

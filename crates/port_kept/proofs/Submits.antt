@@ -11,15 +11,14 @@ use lib.ListN.{length, getD}
 use Rattle.laws.specs.Folds.{foldTo}
 use Rattle.laws.proofs.Bools.{never}
 use Rattle.laws.proofs.Folds.{fold-part, at-or-below}
-use Rattle.laws.proofs.Tests.{Says, equal, both, unless}
+use Rattle.laws.proofs.Tests.{Says, equal, both, unless, same-or-not}
 use Rattle.open_frame.specs.Open.{headListed}
 use Rattle.open_frame.specs.declared.Head.{Head}
-use Rattle.port_parts.specs.Parts.{none, blank, isFree}
+use Rattle.port_parts.specs.Parts.{none, blank, isFree, sameNexus}
 use Rattle.port_parts.specs.declared.Port.{Port}
 use Rattle.port_parts.specs.declared.Request.{Request}
 use Rattle.port_parts.specs.declared.Stamp.{Stamp}
 use Rattle.port_rules.specs.Kept.{Free, Present, SameNexus, SameTimer, Apart, Kept}
-use Rattle.port_rules.specs.Rules.{sameNexus}
 use Rattle.port_rows.specs.Answers.{later, unchanged, told}
 use Rattle.port_rows.specs.Calls.{submitted}
 use Rattle.port_rows.specs.Finds.{noRoom, roomStep, roomOf}
@@ -28,7 +27,6 @@ use Rattle.port_rows.specs.declared.Wish.{Wish}
 use Rattle.port_rows.specs.declared.Word.the-variants.{Submitted}
 use Rattle.port.specs.Calls.{leftOf}
 use Rattle.port.specs.Grounds as grounds
-use Rattle.port_kept.proofs.Changes.{same-or}
 use Rattle.port_kept.proofs.Enters.{beside}
 use Rattle.port_kept.proofs.Holds.{present-at}
 use Rattle.port_kept.proofs.Lates.{waits-on}
@@ -74,7 +72,7 @@ module _ (l : List Request) (h : Head) where
     -- it is the timer of each of them
     mates-timer : (t : Stamp) → Timer 32 t → (j : ℕ) → j < 32 → Mate (at j) → SameTimer t (at j .loss)
     mates-timer t (off nil) j m has = absurd (nil j m has)
-    mates-timer t (some i n mine) j m has = by (same-or j i)
+    mates-timer t (some i n mine) j m has = by (same-or-not j i)
       where
         by : (j ≡ i) ⊎ (j ≡ i → ⊥) → SameTimer (at i .loss) (at j .loss)
         by (inl d) = subst (λ (k : ℕ). SameTimer (at i .loss) (at k .loss)) (sym d) (same-timer (at i .loss))

@@ -14,7 +14,7 @@ use Rattle.laws.proofs.Bools.{never, nor}
 use Rattle.laws.proofs.Tests.{equal, either}
 use Rattle.laws.proofs.Finds.{Found, none, at}
 use Rattle.refusals.proofs.Causes.{NoneGiven}
-use Rattle.port_parts.specs.Parts.{blank, isFree, isSsp, isOpening, isDisabled}
+use Rattle.port_parts.specs.Parts.{blank, isFree, isSsp, isOpening, isDisabled, names, hasFrameOut}
 use Rattle.port_parts.specs.Qualifies.{Right, none, one}
 use Rattle.port_parts.specs.Reasons.{reasonOf, isRetried}
 use Rattle.port_parts.specs.Timer.{isLost}
@@ -24,7 +24,7 @@ use Rattle.port_parts.specs.declared.Port.{Port}
 use Rattle.port_parts.specs.declared.Reason.{Reason}
 use Rattle.port_parts.specs.declared.Request.{Request}
 use Rattle.port_parts.proofs.Choices.{choose-right}
-use Rattle.port_rules.specs.Rules.{rules, names, hasFrameOut}
+use Rattle.port_rules.specs.Rules.{rules}
 use Rattle.port_rules.specs.Kept.{Free}
 use Rattle.port_rows.specs.Calls.{placed, phyAt, isCancelled, isJoined, submitted, cancelled, sent, opening, closing, idle, chosen, connected, again, timerAfter, failed, framed, closedDone, disabledDone, submitCauses, cancelCauses, phyCauses, failedCauses}
 use Rattle.port_rows.specs.Finds.{roomOf, keyOf}

@@ -11,7 +11,7 @@ use lib.ListN.{getD}
 use borrow.Author.Tests.{eqb-true, eqb-false, eq-eqb, ltb-true}
 use Rattle.laws.specs.Sets.{bit}
 use Rattle.laws.proofs.Bools.{never, and-true, and-false}
-use Rattle.laws.proofs.Tests.{Says, equal, both}
+use Rattle.laws.proofs.Tests.{Says, equal, both, same-or-not}
 use Rattle.open_frame.specs.declared.Head.{Head}
 use Rattle.port_parts.specs.Parts.{blank}
 use Rattle.port_parts.specs.declared.Port.{Port}
@@ -23,7 +23,6 @@ use Rattle.port_rows.specs.declared.Word.{Word}
 use Rattle.port_rows.specs.declared.Word.the-variants.{Taken, Submitted, Nothing, Send, Open, Close, StopArb, Retried, Waiting, CancelAcknowledged, Ended, NexusLoss, ConnectionLost, Status, Refused}
 use Rattle.port.specs.Grounds.{HasKey, Absent}
 use Rattle.port.specs.History.{Call, Entry, isLast, isRefused}
-use Rattle.port_kept.proofs.Changes.{same-or}
 use Rattle.port_kept.proofs.Enters.{beside}
 use Rattle.port_once.specs.Standing.{isSetup, isSubmitted, isOf, accepts, ends, speaks, submits, lastWords, Standing, gone, there, wrong, sameHead, agrees, accepted, ended, spoken, after, standing}
 use Rattle.port_once.specs.Turns.{keyed, Stays, OthersStay, Comes, Leaves, Rests, Turns, Holds}
@@ -109,7 +108,7 @@ module _ (x : Key) (c : Call) (a : Answer) (v : Standing) where
 
 -- no two requests share a key
 pub one-of-key : (p : Port) (l : List Request) (x : Key) → Kept p l → (i j : ℕ) → i < 32 → j < 32 → HasKey (getD l i blank) x → HasKey (getD l j blank) x → i ≡ j
-one-of-key p l x kept i j m n a b = by (same-or j i)
+one-of-key p l x kept i j m n a b = by (same-or-not j i)
   where
     by : (j ≡ i) ⊎ (j ≡ i → ⊥) → i ≡ j
     by (inl same) = sym same

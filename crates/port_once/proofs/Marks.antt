@@ -11,7 +11,7 @@ use lib.ListN.{getD}
 use borrow.Author.Tests.{ne-eqb, ltb-false}
 use Rattle.laws.proofs.Bools.{never}
 use Rattle.refusals.proofs.Causes.{NoneGiven}
-use Rattle.port_parts.specs.Parts.{off, blank, isSsp, isOpening}
+use Rattle.port_parts.specs.Parts.{off, blank, isSsp, isOpening, names}
 use Rattle.port_parts.specs.Qualifies.{Qualifies, sends, opens, closes, Right, none, one}
 use Rattle.port_parts.specs.Reasons.{reasonOf, isRetried}
 use Rattle.port_parts.specs.Timer.{isLost}
@@ -21,7 +21,7 @@ use Rattle.port_parts.specs.declared.Port.{Port}
 use Rattle.port_parts.specs.declared.Reason.{Reason}
 use Rattle.port_parts.specs.declared.Request.{Request}
 use Rattle.port_parts.proofs.Choices.{choose-right}
-use Rattle.port_rules.specs.Rules.{rules, names}
+use Rattle.port_rules.specs.Rules.{rules}
 use Rattle.port_rules.specs.Kept.{Free, Present}
 use Rattle.port_rows.specs.Calls.{phyAt, isCancelled, cancelled, sent, opening, closing, idle, chosen, connected, timerAfter, failed, framed, closedDone, disabledDone, phyCauses}
 use Rattle.port_rows.specs.Finds.{keyOf}

@@ -10,9 +10,8 @@ use Rattle.laws.proofs.Bools.{never}
 use Rattle.refusals.specs.Causes.{_when_}
 use Rattle.refusals.specs.declared.Refusal.{Refusal}
 use Rattle.refusals.proofs.Causes.{unrefused}
-use Rattle.port_parts.specs.Parts.{blank}
+use Rattle.port_parts.specs.Parts.{blank, inRange}
 use Rattle.port_parts.specs.declared.Request.{Request}
-use Rattle.port_rules.specs.Rules.{inRange}
 use Rattle.port_rules.proofs.Facts.{range-says}
 use Rattle.port_rows.specs.Answers.{fresh, noPort, refusedBy}
 use Rattle.port_rows.specs.Calls.{bare, setupOf}

@@ -3,7 +3,7 @@
 use Prim.Native.Nat.{ℕ, _≤_, _<_, min}
 use mathlib.Core.Path.{_≡_, refl, sym, ap, subst, _∙_}
 use mathlib.Core.Bool.{Bool, true, false, cond}
-use mathlib.Core.Logic.{_⊎_, inl, inr, _↔_}
+use mathlib.Core.Logic.{inl, inr, _↔_}
 use mathlib.Core.List.{List}
 use native.Mathlib.Omega.{arith}
 use lib.Dec.{eqb, ltb}
@@ -12,13 +12,13 @@ use borrow.Author.Tests.{ne-eqb, ltb-true, ltb-false}
 use Rattle.laws.proofs.Bools.{never}
 use Rattle.port_parts.specs.Parts.{noPhy, blank}
 use Rattle.port_parts.specs.Choice.{wayOf, isReady, nothing, pickOf, chosenOf}
-use Rattle.port_parts.specs.Qualifies.{Ready, Qualifies, Before, Fits, Wins, Right, none, one}
+use Rattle.port_parts.specs.Qualifies.{Qualifies, Before, Fits, Wins, Right, none, one}
 use Rattle.port_parts.specs.declared.Request.{Request}
 use Rattle.port_parts.specs.declared.Phy.{Phy}
 use Rattle.port_parts.specs.declared.Pick.{Pick}
 use Rattle.port_parts.specs.declared.Way.{Way}
 use Rattle.port_parts.specs.declared.Asked.{Asked}
-use Rattle.port_parts.proofs.Ways.{ready-is, is-ready, ready-first, step-least, Goes, Way-says, stuck, goes, way-says}
+use Rattle.port_parts.proofs.Ways.{ready-says, ready-first, step-least, Goes, Way-says, stuck, goes, way-says}
 use Rattle.port_parts.proofs.Earliest.{Is, Earliest, fold-earliest}
 use Rattle.port_parts.proofs.Earliest as earliest
 
@@ -37,8 +37,8 @@ module _ (x : Asked) (eight : length (x .phys) ≡ 8) (r : Request) (i : ℕ) wh
       by-way w (goes g) = yes (ne-eqb (w .step) 0 (λ z. let l = step-least (x .now) r (getD (x .phys) (w .phy) noPhy) (w .step) (g .fits) in omega arith)) refl refl g
 
       by-ready : (t : Bool) → isReady r (x .now) ≡ t → Pick-says (cond t (record { step = wayOf (x .phys) r .step; phy = wayOf (x .phys) r .phy; slot = min i 32; at = r .submitted }) nothing)
-      by-ready true e = by-way (wayOf (x .phys) r) (way-says (x .phys) (x .now) r eight (ready-is r (x .now) e))
-      by-ready false e = no refl (λ k step h q. never (sym e ∙ is-ready r (x .now) (ready-first (x .now) r (getD (x .phys) k noPhy) step q)))
+      by-ready true e = by-way (wayOf (x .phys) r) (way-says (x .phys) (x .now) r eight (ready-says r (x .now) .0 e))
+      by-ready false e = no refl (λ k step h q. never (sym e ∙ ready-says r (x .now) .1 (ready-first (x .now) r (getD (x .phys) k noPhy) step q)))
 
 module _ (x : Asked) (l : List Request) (eight : length (x .phys) ≡ 8) where
   abbrev at : ℕ → Pick

@@ -1,9 +1,9 @@
 -- The pick that a fold by `earlierOf` leaves is the earliest, the lowest slot where several are even: a later one takes its place only
 -- if it is earlier. Assumes nothing.
 use Prim.Native.Nat.{ℕ, zero, suc, _≤_, _<_}
-use mathlib.Core.Path.{_≡_, refl, sym, subst, _∙_}
+use mathlib.Core.Path.{_≡_, refl, sym, subst}
 use mathlib.Core.Bool.{Bool, true, false, not, cond, _&&_, _||_}
-use mathlib.Core.Logic.{_⊎_, inl, inr}
+use mathlib.Core.Logic.{inl, inr}
 use mathlib.Core.List.{List}
 use native.Mathlib.Nat.{not-suc-le-zero}
 use native.Mathlib.Omega.{arith}
@@ -11,7 +11,7 @@ use lib.Dec.{eqb, ltb}
 use lib.ListN.{getD}
 use borrow.Author.Tests.{ltb-true, ltb-false}
 use Rattle.laws.specs.Folds.{foldTo}
-use Rattle.laws.proofs.Bools.{never}
+use Rattle.laws.proofs.Bools.{never, clash}
 use Rattle.laws.proofs.Folds.{at-or-below}
 use Rattle.port_parts.specs.Choice.{nothing, earlierOf}
 use Rattle.port_parts.specs.Qualifies.{Before}
@@ -28,14 +28,11 @@ module _ (f : ℕ → Pick) where
     one : (s : ℕ) → s < n → Is (f s) → ((i : ℕ) → i < n → Is (f i) → Before (f s .at) s (f i .at) i) → Earliest n (f s)
 
   module _ (n : ℕ) where
-    clash : (i : ℕ) → eqb (f i .step) 0 ≡ true → Is (f i) → ⊥
-    clash i a b = never (sym b ∙ a)
-
     -- one more that is none leaves the earliest
     still : (p : Pick) → Earliest n p → eqb (f n .step) 0 ≡ true → Earliest (suc n) p
     still p (none nil) e = none (λ i h. elim (at-or-below i n h) [ inl d ↦ subst (λ (k : ℕ). eqb (f k .step) 0 ≡ true) (sym d) e | inr l ↦ nil i l ])
     still p (one s l is first) e =
-        one s (omega arith) is (λ i h q. elim (at-or-below i n h) [ inl d ↦ absurd (clash n e (subst (λ (k : ℕ). Is (f k)) d q)) | inr m ↦ first i m q ])
+        one s (omega arith) is (λ i h q. elim (at-or-below i n h) [ inl d ↦ absurd (clash (eqb (f n .step) 0) e (subst (λ (k : ℕ). Is (f k)) d q)) | inr m ↦ first i m q ])
 
     -- one more that is not earlier leaves it too
     later : (s : ℕ) → s < n → Is (f s) → ((i : ℕ) → i < n → Is (f i) → Before (f s .at) s (f i .at) i) → f s .at ≤ f n .at → Earliest (suc n) (f s)
@@ -50,7 +47,7 @@ module _ (f : ℕ → Pick) where
 
     -- one more that is the first, or earlier than the earliest, is the earliest
     alone : Is (f n) → ((i : ℕ) → i < n → eqb (f i .step) 0 ≡ true) → Earliest (suc n) (f n)
-    alone is nil = one n (omega arith) is (λ i h q. elim (at-or-below i n h) [ inl d ↦ subst (λ (k : ℕ). Before (f n .at) n (f k .at) k) (sym d) (inr (refl, omega arith)) | inr l ↦ absurd (clash i (nil i l) q) ])
+    alone is nil = one n (omega arith) is (λ i h q. elim (at-or-below i n h) [ inl d ↦ subst (λ (k : ℕ). Before (f n .at) n (f k .at) k) (sym d) (inr (refl, omega arith)) | inr l ↦ absurd (clash (eqb (f i .step) 0) (nil i l) q) ])
 
     sooner : (s : ℕ) → ((i : ℕ) → i < n → Is (f i) → Before (f s .at) s (f i .at) i) → Is (f n) → f n .at < f s .at → Earliest (suc n) (f n)
     sooner s first is under =

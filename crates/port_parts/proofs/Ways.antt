@@ -1,19 +1,18 @@
 -- A way for a request is the first rule that has a phy, on that rule's lowest phy: a rule has a phy exactly if its count is not
 -- none, and the first phy of a rule is the lowest. Assumes nothing.
 use Prim.Native.Nat.{ℕ, _+_, _≤_, _<_}
-use mathlib.Core.Path.{_≡_, refl, sym, ap}
-use mathlib.Core.Bool.{Bool, true, false, not, cond, _&&_, _||_}
-use mathlib.Core.Logic.{_⊎_, inl, inr}
+use mathlib.Core.Path.{_≡_, refl}
+use mathlib.Core.Bool.{Bool, true, false, not, cond, _&&_}
 use mathlib.Core.List.{List}
 use native.Mathlib.Omega.{arith}
-use lib.Dec.{eqb, leb, ltb}
+use lib.Dec.{eqb}
 use lib.ListN.{length, getD}
-use borrow.Author.Tests.{ltb-true, ltb-false, leb-true, eqb-true, eq-eqb, ne-eqb, le-leb, not-true}
-use Rattle.laws.proofs.Bools.{never, and-left, and-right, and-true, and-false}
+use borrow.Author.Tests.{ltb-true, ltb-false, eqb-true, eq-eqb, not-true}
+use Rattle.laws.proofs.Bools.{and-left, and-right, and-true, clash}
 use Rattle.laws.proofs.Sets.{first-in, first-low, count-none}
 use Rattle.laws.specs.Sets.{firstOf, countOf}
-use Rattle.laws.proofs.Tests.{Says, equal, both}
-use Rattle.port_parts.specs.Parts.{noPhy, isWaiting, isSet}
+use Rattle.laws.proofs.Tests.{Says, most, equal, both, implies}
+use Rattle.port_parts.specs.Parts.{noPhy}
 use Rattle.port_parts.specs.Choice.{reaches, forSend, forOpen, forClose, some, by, noWay, wayOf, isReady}
 use Rattle.port_parts.specs.Qualifies.{Ready, Reaches, Qualifies, sends, opens, closes}
 use Rattle.port_parts.specs.declared.Phy.{Phy}
@@ -23,10 +22,6 @@ use Rattle.port_parts.specs.declared.Way.{Way}
 reaches-says : (p : Phy) (r : Request) → Says (reaches p (r .head)) (Reaches p r)
 reaches-says p r = both (equal (p .destination) (r .head .destination)) (equal (p .protocol) (r .head .protocol))
 
-clash : (t : Bool) → t ≡ true → t ≡ false → ⊥
-clash true a b = never (sym b)
-clash false a b = never a
-
 -- what each test says of a phy
 send-says : (p : Phy) (r : Request) → forSend (r .head) p ≡ true → (p .stage ≡ 3) × Reaches p r
 send-says p r e = (eqb-true (p .stage) 3 (and-left (eqb (p .stage) 3) _ e), reaches-says p r .0 (and-right (eqb (p .stage) 3) _ e))
@@ -34,20 +29,8 @@ send-says p r e = (eqb-true (p .stage) 3 (and-left (eqb (p .stage) 3) _ e), reac
 close-says : (p : Phy) (r : Request) → forClose (r .head) p ≡ true → (p .stage ≡ 3) × (Reaches p r → ⊥)
 close-says p r e = (eqb-true (p .stage) 3 (and-left (eqb (p .stage) 3) _ e), λ t. clash (reaches p (r .head)) (reaches-says p r .1 t) (not-true (reaches p (r .head)) (and-right (eqb (p .stage) 3) _ e)))
 
--- ready is what the test tests
-pub ready-is : (r : Request) (now : ℕ) → isReady r now ≡ true → Ready now r
-ready-is r now e = (eqb-true (r .stage) 1 (and-left (isWaiting r) _ e), λ set. rested (isSet (r .retry)) (eq-eqb (r .retry .set) 1 set) (and-right (isWaiting r) _ e))
-  where
-    rested : (t : Bool) → t ≡ true → not t || leb (r .retry .at + 15) now ≡ true → r .retry .at + 15 ≤ now
-    rested true e h = leb-true (r .retry .at + 15) now h
-    rested false e h = absurd (never e)
-
-pub is-ready : (r : Request) (now : ℕ) → Ready now r → isReady r now ≡ true
-is-ready r now (waits, rested) = and-true (eq-eqb (r .stage) 1 waits) (by-set (isSet (r .retry)) refl)
-  where
-    by-set : (t : Bool) → isSet (r .retry) ≡ t → not t || leb (r .retry .at + 15) now ≡ true
-    by-set true e = le-leb (r .retry .at + 15) now (rested (eqb-true (r .retry .set) 1 e))
-    by-set false e = refl
+pub ready-says : (r : Request) (now : ℕ) → Says (isReady r now) (Ready now r)
+ready-says r now = both (equal (r .stage) 1) (implies (equal (r .retry .set) 1) (most (r .retry .at + 15) now))
 
 -- what a request and a phy that qualify say of the tests
 module _ (now : ℕ) (r : Request) (p : Phy) (step : ℕ) where

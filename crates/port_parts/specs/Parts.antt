@@ -1,7 +1,7 @@
 -- Document 01, 'Port': phys, requests and time stamps. Assumes nothing.
 use Prim.Native.Nat.{ℕ}
-use mathlib.Core.Bool.{Bool}
-use lib.Dec.{eqb}
+use mathlib.Core.Bool.{Bool, _&&_, _||_}
+use lib.Dec.{eqb, leb, ltb}
 use Rattle.open_frame.specs.declared.Head.{Head}
 use Rattle.port_parts.specs.declared.Phy.{Phy}
 use Rattle.port_parts.specs.declared.Stamp.{Stamp}
@@ -26,6 +26,10 @@ abbrev pub noPhy : Phy
 noPhy = record { stage = 0; slot = 0; protocol = 0; destination = 0 }
 
 -- 01 PORT.1: 1 to 8 phys from 0, each disabled (at setup), unconnected, opening, connected or closing (these two idle or with a frame out); loss time 1 to 65,535 ms (65,535: never).
+abbrev pub inRange : ℕ → ℕ → Bool
+inRange count loss = leb 1 count && (leb count 8 && (leb 1 loss && leb loss 65535))
+
+-- 01 PORT.1
 abbrev pub isDisabled : Phy → Bool
 isDisabled p = eqb (p .stage) 0
 
@@ -50,6 +54,13 @@ isClosing p = eqb (p .stage) 5
 -- closing with a frame out
 abbrev pub isClosingSending : Phy → Bool
 isClosingSending p = eqb (p .stage) 6
+
+abbrev pub hasFrameOut : Phy → Bool
+hasFrameOut p = isSending p || isClosingSending p
+
+-- it names a request
+abbrev pub names : Phy → Bool
+names p = ltb (p .slot) 32
 
 abbrev pub noHead : Head
 noHead = record { initiator = 0; protocol = 0; features = 0; rate = 0; tag = 0; destination = 0; source = 0 }
@@ -82,3 +93,11 @@ isInProgress r = eqb (r .stage) 2
 
 abbrev pub isSsp : Head → Bool
 isSsp h = eqb (h .protocol) 1
+
+-- of one destination, protocol and tag
+abbrev pub sameKey : Head → Head → Bool
+sameKey g h = eqb (g .destination) (h .destination) && (eqb (g .protocol) (h .protocol) && eqb (g .tag) (h .tag))
+
+-- two SSP requests to one destination
+abbrev pub sameNexus : Head → Head → Bool
+sameNexus g h = eqb (g .destination) (h .destination) && (eqb (g .protocol) (h .protocol) && isSsp h)

@@ -3,7 +3,7 @@ ghost use mathlib.Core.Path.{_≡_};
 ghost use Prim.Native.Nat.{_+_, _≤_, _<_, min};
 ghost use lib.Dec.{leb};
 ghost use Rattle.laws.specs.Sets.{bit};
-ghost use Rattle.port_parts.specs.Parts.{off, none, blank, isFree, isWaiting, isInProgress, isSsp};
+ghost use Rattle.port_parts.specs.Parts.{inRange, off, none, blank, isFree, isWaiting, isInProgress, isSsp};
 ghost use Rattle.port_parts.specs.Choice.{joinedOf, setsOf, wayOf, isReady, nothing, pickOf, earlierOf, chosenStep};
 ghost use Rattle.port_parts.specs.Reasons.{reasonOf, isListed, isRetried, isBlocked, isStarting, isStopping};
 ghost use Rattle.port_parts.specs.Choice as choice;
@@ -112,6 +112,20 @@ pub enum Reason {
     BreakReceived,
     // Any number that isn't one of document 01's reasons.
     Other,
+}
+
+// Whether setup takes these numbers.
+pub fn in_range(count: u8, loss: u16) -> bool
+    ensures { λ a. ⌜ a ≡ inRange count loss ⌝ }
+{
+    (1 <= count) & ((count <= 8) & ((1 <= loss) & (loss <= 65535)))
+}
+
+// Whether a phy has a frame out.
+pub fn has_frame_out(p: Phy) -> bool
+    ensures { λ a. ⌜ a ≡ parts.hasFrameOut p ⌝ }
+{
+    (p.stage == 4) | (p.stage == 6)
 }
 
 pub fn no_stamp() -> Stamp

@@ -1,18 +1,17 @@
 -- Sentences of document 01 about single calls follow from the calls' definitions: each cause is computed, then what is left and
 -- answered. Assumes nothing.
-use Prim.Native.Nat.{ℕ}
+use Prim.Native.Nat.{ℕ, _+_, min}
 use mathlib.Core.Bool.{true, false, _&&_}
 use mathlib.Core.Path.{_≡_}
 use lib.Dec.{eqb, leb, ltb}
 use Rattle.refusals.specs.declared.Refusal.{Refusal}
 use Rattle.open_frame.specs.Open.{headListed}
-use Rattle.port_parts.specs.Parts.{none, isOpening, blank, isFree, isSsp}
+use Rattle.port_parts.specs.Parts.{none, isOpening, blank, isFree, isSsp, inRange}
 use Rattle.port_parts.specs.Reasons.{reasonOf, isListed, isRetried, isBlocked}
 use Rattle.port_parts.specs.Timer.{isLost}
 use Rattle.port_parts.specs.declared.Port.{Port}
 use Rattle.port_parts.specs.declared.Reason.{Reason}
 use Rattle.port_parts.specs.declared.Request.{Request}
-use Rattle.port_rules.specs.Rules.{inRange}
 use Rattle.port_rows.specs.Calls.{phyAt, timerAfter, isAgain, isCancelled, setupOf, submitOf, openedOf, openFailedOf}
 use Rattle.port_rows.specs.Records.{spread, leftStep}
 use Rattle.port_rows.specs.declared.Word.the-variants.{Taken, Submitted, Send, Ended, NexusLoss, Refused}
@@ -91,10 +90,10 @@ module _ (p : Port) (r : Request) (x : Failure) (listed : isListed (reasonOf (x 
       unfolding openFailedOf
       runs-on = rw (listed, own, due, opening, again, blocked)
 
-      -- 01 EXAMPLE.4: P9 PBC 255 blocked again: 255.
-      stays-255 : r .pbc .0 ≡ 255 → openFailedOf p r true x .entry .pbc .0 ≡ 255
+      -- and counts one more, up to 255
+      counts-on : openFailedOf p r true x .entry .pbc .0 ≡ min (r .pbc .0 + 1) 255
       unfolding openFailedOf
-      stays-255 most = rw (listed, own, due, opening, again, blocked, most)
+      counts-on = rw (listed, own, due, opening, again, blocked)
 
     -- 01 PORT.19: the other retries reset both
     module _ (other : isBlocked (reasonOf (x .why)) ≡ false) where

@@ -12,7 +12,7 @@ use Rattle.open_frame.specs.Wait.{awtOf}
 use Rattle.open_frame.specs.declared.Awt.{Awt}
 use Rattle.open_frame.specs.declared.Head.{Head}
 use Rattle.open_frame.specs.declared.Pbc.{Pbc}
-use Rattle.port_parts.specs.Parts.{none, stamped, isSet, off, noPhy, isDisabled, isOpening, isIdle, isSending, isClosing, isClosingSending, blank, isWaiting, isSsp}
+use Rattle.port_parts.specs.Parts.{none, stamped, isSet, off, noPhy, isDisabled, isOpening, isIdle, isSending, isClosing, isClosingSending, blank, isWaiting, isSsp, inRange, names, hasFrameOut}
 use Rattle.port_parts.specs.Reasons.{reasonOf, isListed, isRetried, isBlocked, isStarting, isStopping}
 use Rattle.port_parts.specs.Timer.{timerBy, isLost}
 use Rattle.port_parts.specs.declared.Phy.{Phy}
@@ -21,7 +21,6 @@ use Rattle.port_parts.specs.declared.Port.{Port}
 use Rattle.port_parts.specs.declared.Reason.{Reason}
 use Rattle.port_parts.specs.declared.Request.{Request}
 use Rattle.port_parts.specs.declared.Stamp.{Stamp}
-use Rattle.port_rules.specs.Rules.{inRange, names, hasFrameOut}
 use Rattle.port_rows.specs.Answers.{noFrame, nameless, later, withPhy, fresh, noPort, idlePhy, openingPhy, joinedPhy, stagedPhy, unchanged, lossBy, told, refusedBy}
 use Rattle.port_rows.specs.declared.Word.{Word}
 use Rattle.port_rows.specs.declared.Word.the-variants.{Taken, Submitted, Nothing, Send, Open, Close, StopArb, Retried, Waiting, CancelAcknowledged, Ended, NexusLoss, ConnectionLost, Status}

@@ -5,9 +5,8 @@ use mathlib.Core.List.{List}
 use lib.Dec.{eqb}
 use Rattle.laws.specs.Folds.{foldTo}
 use Rattle.open_frame.specs.declared.Head.{Head}
-use Rattle.port_parts.specs.Parts.{none, blank, isFree}
+use Rattle.port_parts.specs.Parts.{none, blank, isFree, sameKey, sameNexus}
 use Rattle.port_parts.specs.declared.Request.{Request}
-use Rattle.port_rules.specs.Rules.{sameKey, sameNexus}
 use Rattle.port_rows.specs.declared.Room.{Room}
 use Rattle.port_rows.specs.declared.Key.{Key}
 

@@ -14,12 +14,12 @@ use Rattle.laws.proofs.Tests.{Says, less, most, equal, itself, both, either, im
 use Rattle.laws.proofs.Folds.{all-of, fold-all, fold-from-all}
 use Rattle.open_frame.specs.Open.{headListed}
 use Rattle.open_frame.specs.declared.Head.{Head}
-use Rattle.port_parts.specs.Parts.{noPhy, blank, isSet, isSsp, isFree}
+use Rattle.port_parts.specs.Parts.{noPhy, blank, isSet, isSsp, isFree, inRange, sameKey, sameNexus}
 use Rattle.port_parts.specs.declared.Phy.{Phy}
 use Rattle.port_parts.specs.declared.Port.{Port}
 use Rattle.port_parts.specs.declared.Request.{Request}
 use Rattle.port_parts.specs.declared.Stamp.{Stamp}
-use Rattle.port_rules.specs.Rules.{inRange, mustName, phyRule, portRule, on, pairedAt, paired, stampsRule, flagsRule, presentRule, requestRule, eachOf, sameKey, sameNexus, sameTimer, apartRule, againstOf, apartFrom, apartOf, rules}
+use Rattle.port_rules.specs.Rules.{mustName, phyRule, portRule, on, pairedAt, paired, stampsRule, flagsRule, presentRule, requestRule, eachOf, sameTimer, apartRule, againstOf, apartFrom, apartOf, rules}
 use Rattle.port_rules.specs.Kept.{InRange, MustName, PhyKept, Paired, Stamped, Flags, Present, Free, RequestKept, SameKey, SameNexus, SameTimer, Apart, Kept}
 
 pub range-says : (count loss : ℕ) → Says (inRange count loss) (InRange count loss)

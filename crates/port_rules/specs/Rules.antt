@@ -6,23 +6,12 @@ use lib.Dec.{eqb, leb, ltb}
 use lib.ListN.{getD}
 use Rattle.laws.specs.Folds.{foldTo, foldFrom, allBelow}
 use Rattle.open_frame.specs.Open.{headListed}
-use Rattle.open_frame.specs.declared.Head.{Head}
-use Rattle.port_parts.specs.Parts.{noPhy, blank, isSet, isDisabled, isOpening, isSending, isClosing, isClosingSending, isFree, isInProgress, isSsp}
+use Rattle.port_parts.specs.Parts.{noPhy, blank, inRange, isSet, isDisabled, isOpening, isClosing, hasFrameOut, names, isFree, isInProgress, isSsp, sameKey, sameNexus}
 use Rattle.port_parts.specs.declared.Phy.{Phy}
 use Rattle.port_parts.specs.declared.Port.{Port}
 use Rattle.port_parts.specs.declared.Request.{Request}
 use Rattle.port_parts.specs.declared.Stamp.{Stamp}
 use Rattle.port_rules.specs.declared.Against.{Against}
-
--- 01 PORT.1
-abbrev pub inRange : ℕ → ℕ → Bool
-inRange count loss = leb 1 count && (leb count 8 && (leb 1 loss && leb loss 65535))
-
-abbrev pub hasFrameOut : Phy → Bool
-hasFrameOut p = isSending p || isClosingSending p
-
-abbrev pub names : Phy → Bool
-names p = ltb (p .slot) 32
 
 -- 01 PORT.7: an opening phy or one with a frame out names one, a closing one may, no other does
 abbrev pub mustName : Phy → Bool
@@ -74,18 +63,11 @@ eachStep kept r i p = kept && requestRule p r i
 abbrev pub eachOf : Port → List Request → Bool
 eachOf p l = foldTo blank (λ kept r i. eachStep kept r i p) (portRule p) l 32
 
--- 01 PORT.5: no two requests share destination, protocol and tag
-abbrev pub sameKey : Head → Head → Bool
-sameKey g h = eqb (g .destination) (h .destination) && (eqb (g .protocol) (h .protocol) && eqb (g .tag) (h .tag))
-
--- two SSP requests to one destination
-abbrev pub sameNexus : Head → Head → Bool
-sameNexus g h = eqb (g .destination) (h .destination) && (eqb (g .protocol) (h .protocol) && isSsp h)
-
 -- both are noPhy, or both run from one time
 abbrev pub sameTimer : Stamp → Stamp → Bool
 sameTimer s t = ((not (isSet s) || isSet t) && (not (isSet t) || isSet s)) && (not (isSet s) || eqb (s .at) (t .at))
 
+-- 01 PORT.5: no two requests share destination, protocol and tag
 -- 01 PORT.10: one loss timer at most per destination, only with an SSP request present.
 abbrev pub apartRule : Against → Request → Bool
 apartRule x r = isFree r || (not (sameKey (x .head) (r .head)) && (not (sameNexus (x .head) (r .head)) || sameTimer (x .loss) (r .loss)))

@@ -2,7 +2,7 @@
 ghost use mathlib.Core.Path.{_≡_};
 ghost use mathlib.Core.Bool.{_&&_};
 ghost use Rattle.laws.specs.Folds.{allBelow};
-ghost use Rattle.port_rules.specs.Rules.{inRange, phyRule, portRule, pairedAt, paired, presentRule, requestRule, eachStep, apartStep, againstOf};
+ghost use Rattle.port_rules.specs.Rules.{phyRule, portRule, pairedAt, paired, presentRule, requestRule, eachStep, apartStep, againstOf};
 ghost use Rattle.port_rules.specs.Rules as rules;
 use open_frame::Head;
 use port_parts::Phy;
@@ -18,25 +18,11 @@ pub struct Against {
     pub from: usize,
 }
 
-// Whether setup takes these numbers.
-pub fn in_range(count: u8, loss: u16) -> bool
-    ensures { λ a. ⌜ a ≡ inRange count loss ⌝ }
-{
-    (1 <= count) & ((count <= 8) & ((1 <= loss) & (loss <= 65535)))
-}
-
-// Whether a phy has a frame out.
-pub fn has_frame_out(p: Phy) -> bool
-    ensures { λ a. ⌜ a ≡ rules.hasFrameOut p ⌝ }
-{
-    (p.stage == 4) | (p.stage == 6)
-}
-
 fn names_right(p: Phy) -> bool
     ensures { λ a. ⌜ a ≡ rules.namesRight p ⌝ }
 {
     let names = p.slot < 32;
-    let must = (p.stage == 2) | has_frame_out(p);
+    let must = (p.stage == 2) | port_parts::has_frame_out(p);
     (p.slot <= 32) & ((!must | names) & (!names | (must | (p.stage == 5))))
 }
 
@@ -51,7 +37,7 @@ pub fn port_rule(p: Port) -> bool
     ensures { λ a. ⌜ a ≡ portRule p ⌝ }
 {
     let count = p.count;
-    let mut kept = in_range(count, p.loss);
+    let mut kept = port_parts::in_range(count, p.loss);
     let mut k: usize = 0;
     while k < 8 {
         let phy = p.phys[k];

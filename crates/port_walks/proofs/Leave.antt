@@ -52,7 +52,7 @@ use denote.Exit.{yes}
 use Rattle.port_parts.specs.declared.Request.{Request}
 use Rattle.laws.specs.Folds.{mapTo}
 use Rattle.port_parts.specs.Parts.{blank}
-use Rattle.port_walks.proofs.Turns.{below-or-not}
+use Rattle.laws.proofs.Tests.{below-or-not}
 use Rattle.port_walks.proofs.Rec.{R, request, mach, vals, tells, makes, place-fits, stride}
 use Rattle.port_walks.proofs.Arg.{Arg, number}
 use Rattle.port_walks.proofs.Callees.{gives1, gives3, calls1, calls3}

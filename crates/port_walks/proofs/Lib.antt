@@ -3,7 +3,6 @@ pub mod Arg
 pub mod Rec
 pub mod Callees
 pub mod Shared
-pub mod Turns
 pub mod FoldFrom
 pub mod Survey
 pub mod Leave

@@ -1,8 +1,7 @@
 -- A call is refused with k exactly if k is the first ground that holds: each test decides its ground, and the list is walked
 -- once for the tests and once for the grounds. Assumes nothing.
 use mathlib.Core.Path.{_≡_, refl, sym, ap, subst, _∙_}
-use mathlib.Core.Bool.{Bool, true, false, not, cond}
-use mathlib.Core.Logic.{_↔_}
+use mathlib.Core.Bool.{Bool, true, false, cond}
 use mathlib.Core.List.{List, [], _∷_, _++_}
 use Rattle.laws.proofs.Bools.{never}
 use Rattle.refusals.specs.Causes.{Cause, Ground, refuse, First, here, later, None, end, past, Decides, nil, cons}
@@ -47,11 +46,6 @@ by-causes {A} P refused stays cs a goes = by (verdict cs)
 pub unrefused : {A : Type 0} (refused : Refusal → A) (a : A) (cs : List Cause) → NoneGiven cs → a ≡ refuse refused cs a
 unrefused refused a [] off = refl
 unrefused refused a (c ∷ cs) off = unrefused refused a cs (off .1) ∙ ap (λ (t : Bool). cond t (refused (c .refusal)) (refuse refused cs a)) (sym (off .0))
-
--- a test negated decides the negation
-pub negated : {t : Bool} {P : Type 0} → (t ≡ true) ↔ P → (not t ≡ true) ↔ (P → ⊥)
-negated {t = true} d = (λ e. absurd (never e), λ off. absurd (off (d .0 refl)))
-negated {t = false} d = (λ e p. never (d .1 p), λ off. refl)
 
 -- tests decide the grounds of both lists one after the other
 pub decides-append : {cs ds : List Cause} {gs es : List Ground} → Decides cs gs → Decides ds es → Decides (cs ++ ds) (gs ++ es)

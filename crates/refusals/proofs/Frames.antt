@@ -1,6 +1,6 @@
 -- A frame's reader or writer has three ways out, which its two tests decide. Assumes nothing.
 use mathlib.Core.Path.{_≡_, refl, sym, _∙_}
-use mathlib.Core.Bool.{Bool, true, false, not}
+use mathlib.Core.Bool.{Bool, true, false}
 use mathlib.Core.Logic.{_↔_}
 use mathlib.Core.List.{List}
 use Prim.Native.Nat.{ℕ}
@@ -10,7 +10,7 @@ use Rattle.refusals.specs.declared.Refusal.{Refusal}
 use Rattle.refusals.specs.declared.Refusal.the-variants.{Length, Unlisted}
 use Rattle.refusals.specs.declared.Written.{Written}
 use Rattle.refusals.specs.declared.Written.the-variants.{Done, Refused}
-use Rattle.refusals.proofs.Causes.{negated}
+use Rattle.laws.proofs.Tests.{unless}
 
 module _ {A : Type 0} (refused : Refusal → A) (a : A) {s : Bool} where
   pub by-length : (t : Bool) → s ≡ false → refused Length ≡ refuse refused (frameCauses s t) a
@@ -57,4 +57,4 @@ wrote-once p q = (p .answer ∙ sym (q .answer), p .bytes ∙ sym (q .bytes))
 
 -- tests of lengths and fields decide the grounds
 pub frame-decides : {s t : Bool} {P Q : Type 0} → (s ≡ true) ↔ P → (t ≡ true) ↔ Q → Decides (frameCauses s t) (frameGrounds P Q)
-frame-decides d e = cons (negated d) (cons (negated e) nil)
+frame-decides d e = cons (unless d) (cons (unless e) nil)

@@ -2,15 +2,16 @@
 -- read offset is in one of them or was ACKed before, and so the last ACK makes all of it sure; in drain a frame of the attempt is
 -- missing, and nothing is moved. Any call keeps this. Assumes nothing.
 use Prim.Native.Nat.{ℕ, suc, _+_, _-_, _≤_, _<_}
-use mathlib.Core.Bool.{Bool, true, false, cond}
+use mathlib.Core.Bool.{true, false, cond}
 use mathlib.Core.List.{List, [], _∷_, _++_}
 use mathlib.Core.Logic.{_⊎_, inl, inr, ⊎-elim}
 use mathlib.Core.Path.{_≡_, refl, sym, ap, subst, subst⁻¹, _∙_}
 use native.Mathlib.Omega.{arith}
-use lib.Dec.{ltb, leb, eqb}
+use lib.Dec.{leb, eqb}
 use lib.ListN.{length, length-append}
-use borrow.Author.Tests.{ltb-true, ltb-false, eqb-true, eqb-false, leb-false, not-false}
+use borrow.Author.Tests.{eqb-true, eqb-false, leb-false, not-false}
 use Rattle.laws.proofs.Bools.{by-test}
+use Rattle.laws.proofs.Tests.{below-or-not}
 use Rattle.refusals.specs.Causes.{refuse}
 use Rattle.refusals.specs.declared.Refusal.{Refusal}
 use Rattle.transfer.specs.Rules.{endOf, before}
@@ -97,13 +98,6 @@ covered-left x (f ∷ fs) b (inr h) = inr (covered-left x fs b h)
 covered-right : (x : ℕ) (a b : List Frame) → Covered x b → Covered x (a ++ b)
 covered-right x [] b h = h
 covered-right x (f ∷ fs) b h = inr (covered-right x fs b h)
-
-below : (x y : ℕ) → (x < y) ⊎ (y ≤ x)
-below x y = go (ltb x y) refl
-  where
-    go : (t : Bool) → ltb x y ≡ t → (x < y) ⊎ (y ≤ x)
-    go true e = inl (ltb-true x y e)
-    go false e = inr (ltb-false x y e)
 
 pub no-frame : {A : Type 0} (f : Frame) (fs : List Frame) → [] ≡ f ∷ fs → A
 no-frame f fs e = let z : _≡_ {A = ℕ} 0 (suc (length fs)) = ap length e in absurd (omega arith)
@@ -193,7 +187,7 @@ module _ (bound : ℕ) (s : Transfer) (v : View) (i : Inv bound s v) where
         out = λ x h k. ⊎-elim
             (λ y. ⊎-elim (λ a. inl a) (λ w. inr (covered-left x (v .waiting) (f ∷ []) w)) (r .out x h y))
             (λ y. inr (covered-right x (v .waiting) (f ∷ []) (inl (y, k))))
-            (below x (s .read));
+            (below-or-not x (s .read));
         ends = refl;
         calm = r .calm;
       })
@@ -277,7 +271,7 @@ module _ (bound : ℕ) (s : Transfer) (v : View) (i : Inv bound s v) where
     all-sure x h k =
         ⊎-elim (λ y. inr (i .sure x h y))
         (λ y. ⊎-elim (λ a. inr a) (λ w. ⊎-elim (λ z. z) (λ (z : ⊥). absurd z) (split f [] e x w)) (running p .out x y k))
-        (below x (s .balance))
+        (below-or-not x (s .balance))
 
     all-good : v .attempt ≡ f ∷ v .good
     all-good = running p .joined ∙ ap (λ (l : List Frame). onto l (v .good)) e

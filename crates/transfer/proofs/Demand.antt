@@ -7,7 +7,7 @@ use native.Mathlib.Omega.{arith}
 use lib.Dec.{leb, eqb}
 use lib.ListN.{length}
 use borrow.Author.Tests.{not-false}
-use Rattle.laws.proofs.Bools.{never, by-test}
+use Rattle.laws.proofs.Bools.{never, by-test, impossible}
 use Rattle.transfer.specs.Rules.{endOf, before}
 use Rattle.transfer.specs.Steps.{unfinished, draining, started, frameLength, framed, answered, allSent, settled, drained, acked, naked, dropped}
 use Rattle.transfer.specs.Steps.{ended, refused, say, startCauses, frameCauses, answerCauses, endCauses, startStep, frameStep, ackStep, nakStep}
@@ -43,40 +43,36 @@ pub record Done (s t : Transfer) : Type 0 where
 abbrev pub Says : Transfer → Stepped → Type 0
 Says s st = isDone (st .answer) ≡ true → Done s (st .state)
 
--- another word says nothing
-mute : {A : Type 0} → false ≡ true → A
-mute e = absurd (never e)
-
 module _ (bound : ℕ) (s : Transfer) where
   says-drain : Says s (drained (answered s))
   unfolding drained
-  says-drain = by-test (Says s) (eqb (s .unanswered - 1) 0) (λ t. mute) (λ t. mute)
+  says-drain = by-test (Says s) (eqb (s .unanswered - 1) 0) (λ t. impossible) (λ t. impossible)
 
   says-ack : Says s (acked (answered s))
   unfolding acked settled
   says-ack =
       by-test (Says s) (draining (s .phase)) (λ d. says-drain)
       (λ d. by-test (Says s) (eqb (s .unanswered - 1) 0)
-      (λ t. by-test (Says s) (allSent s) (λ q e. record { phase = refl; offset = refl; end = refl }) (λ q. mute)) (λ t. mute))
+      (λ t. by-test (Says s) (allSent s) (λ q e. record { phase = refl; offset = refl; end = refl }) (λ q. impossible)) (λ t. impossible))
 
   says-nak : Says s (naked (answered s))
   unfolding naked
-  says-nak = by-test (Says s) (leb (s .resends) (s .used)) (λ t. mute) (λ t. says-drain)
+  says-nak = by-test (Says s) (leb (s .resends) (s .used)) (λ t. impossible) (λ t. says-drain)
 
   says-drop : Says s (dropped s)
   unfolding dropped
-  says-drop = by-test (Says s) (leb (s .resends) (s .used)) (λ t. mute) (λ t. mute)
+  says-drop = by-test (Says s) (leb (s .resends) (s .used)) (λ t. impossible) (λ t. impossible)
 
   says : (c : Call) → Says s (stepOf bound c s)
   unfolding stepOf startStep frameStep ackStep nakStep dropStep endStep
-  says (start b n m r) = by-causes (Says s) (refused s) (λ k. mute) (startCauses bound b n m r s) (say Answer.Ok (started b n m r)) (λ off. mute)
-  says frame = by-causes (Says s) (refused s) (λ k. mute) (frameCauses bound s) (framed (frameLength s) s) (λ off. mute)
-  says ack = by-causes (Says s) (refused s) (λ k. mute) (answerCauses bound s) (acked (answered s)) (λ off. says-ack)
-  says nak = by-causes (Says s) (refused s) (λ k. mute) (answerCauses bound s) (naked (answered s)) (λ off. says-nak)
-  says timeout = by-causes (Says s) (refused s) (λ k. mute) (answerCauses bound s) (dropped s) (λ off. says-drop)
-  says lost = by-causes (Says s) (refused s) (λ k. mute) (answerCauses bound s) (dropped s) (λ off. says-drop)
-  says nexus = by-causes (Says s) (refused s) (λ k. mute) (endCauses bound s) (ended s) (λ off. mute)
-  says cancel = by-causes (Says s) (refused s) (λ k. mute) (endCauses bound s) (ended s) (λ off. mute)
+  says (start b n m r) = by-causes (Says s) (refused s) (λ k. impossible) (startCauses bound b n m r s) (say Answer.Ok (started b n m r)) (λ off. impossible)
+  says frame = by-causes (Says s) (refused s) (λ k. impossible) (frameCauses bound s) (framed (frameLength s) s) (λ off. impossible)
+  says ack = by-causes (Says s) (refused s) (λ k. impossible) (answerCauses bound s) (acked (answered s)) (λ off. says-ack)
+  says nak = by-causes (Says s) (refused s) (λ k. impossible) (answerCauses bound s) (naked (answered s)) (λ off. says-nak)
+  says timeout = by-causes (Says s) (refused s) (λ k. impossible) (answerCauses bound s) (dropped s) (λ off. says-drop)
+  says lost = by-causes (Says s) (refused s) (λ k. impossible) (answerCauses bound s) (dropped s) (λ off. says-drop)
+  says nexus = by-causes (Says s) (refused s) (λ k. impossible) (endCauses bound s) (ended s) (λ off. impossible)
+  says cancel = by-causes (Says s) (refused s) (λ k. impossible) (endCauses bound s) (ended s) (λ off. impossible)
 
 -- a frame that a call adds to the history went in run, at the read offset
 abbrev pub Goes : Transfer → List Entry → Type 0

@@ -7,6 +7,7 @@ use mathlib.Core.Logic.{inl, inr, _↔_}
 use mathlib.Core.Path.{_≡_, refl, sym, ap, subst, _∙_}
 use native.Mathlib.Omega.{arith}
 use native.Mathlib.Nat.{mul-le-mul-right, lt-of-mul-lt-mul-right}
+use Rattle.laws.proofs.Bools.{impossible}
 use Rattle.transfer.specs.Rules.{endOf, inRange, before, frames, rules}
 use Rattle.transfer.specs.Steps.{startStep, frameStep, ackStep, nakStep, dropStep, endStep}
 use Rattle.transfer.specs.Calls.{Call, start, frame, ack, nak, timeout, lost, nexus, cancel, stepOf, run, Reachable}
@@ -16,7 +17,7 @@ use Rattle.transfer.specs.declared.Phase.{Phase}
 use Rattle.transfer.proofs.Facts.{PhaseRule, sent-by, RunRule, DrainRule}
 use Rattle.transfer.proofs.Shape.{BaseOf, Good, frames-reach, frames-less, rules-good, good-rules}
 use Rattle.transfer.proofs.Sound.{run-good}
-use Rattle.transfer.proofs.Moves.{at, done, Fresh, no-bool, some, four, idle-kept, out-kept, begin-step, frame-step, ack-one, ack-more}
+use Rattle.transfer.proofs.Moves.{at, done, Fresh, some, four, idle-kept, out-kept, begin-step, frame-step, ack-one, ack-more}
 use Rattle.transfer.proofs.Moves.{ack-done, nak-one, nak-drain, nak-fail, cancel-step, done-is, inside, idle-is, out-is, fresh}
 
 -- some calls leave s of the state before START
@@ -57,11 +58,11 @@ module _ (bound : ℕ) (two : 2 ≤ bound) (s : Transfer) (h : InRange (s .offse
 
   -- with no resend yet
   plain-at : (k : ℕ) → k * s .size < s .count → (sent : Bool) × Fresh k sent 0 × Reach bound (at s k 0 0 sent 0 Phase.Run)
-  plain-at zero a = (false, record { moved = λ e. no-bool (sym e); still = λ e z. refl }, begins)
+  plain-at zero a = (false, record { moved = impossible; still = λ e z. refl }, begins)
   plain-at (suc k) a =
       let p = plain-at k (omega arith) in
       let t : Reach bound (at s (k + 1) 0 0 true 0 Phase.Run) = one-on k (p .0) 0 (omega arith) (omega arith) (p .1) (p .2) in
-      (true, record { moved = λ e. omega arith; still = λ e z. no-bool e }, same (k + 1) (suc k) true 0 (omega arith) t)
+      (true, record { moved = λ e. omega arith; still = λ e z. impossible (sym e) }, same (k + 1) (suc k) true 0 (omega arith) t)
 
   -- a resend more
   again : (k : ℕ) (sent : Bool) (used : ℕ) → k * s .size < s .count → used < s .resends → Fresh k sent used
@@ -79,7 +80,7 @@ module _ (bound : ℕ) (two : 2 ≤ bound) (s : Transfer) (h : InRange (s .offse
   idle-at zero u k a = plain-at k a
   idle-at (suc used) u k a =
       let p = idle-at used (omega arith) k a in
-      (false, record { moved = λ e. no-bool (sym e); still = λ e z. absurd (omega arith) }, again k (p .0) used a u (p .1) (p .2))
+      (false, record { moved = impossible; still = λ e z. absurd (omega arith) }, again k (p .0) used a u (p .1) (p .2))
 
   -- every state with none out
   idle : (k : ℕ) (sent : Bool) (used : ℕ) → k * s .size < s .count → used ≤ s .resends → Fresh k sent used

@@ -7,7 +7,7 @@ use mathlib.Core.Path.{_≡_, refl, sym, ap, _∙_}
 use native.Mathlib.Omega.{arith}
 use lib.Dec.{eqb}
 use borrow.Author.Tests.{lt-leb, le-leb, eq-eqb, ne-eqb}
-use Rattle.laws.proofs.Bools.{never}
+use Rattle.laws.proofs.Bools.{clash}
 use Rattle.transfer.specs.Rules.{endOf, before, rules}
 use Rattle.transfer.specs.Steps.{with, settled, drained, acked, naked, dropped, startStep, frameStep, ackStep, nakStep, dropStep, endStep}
 use Rattle.transfer.specs.Calls.{start, frame, ack, nak, timeout, cancel, stepOf}
@@ -34,9 +34,6 @@ done s used = with s (endOf s) (endOf s) 0 true used Phase.Done
 alike : (s : Transfer) {x x′ y y′ z z′ : ℕ} {sent : Bool} {used : ℕ} {phase : Phase} → x ≡ x′ → y ≡ y′ → z ≡ z′
     → with s x y z sent used phase ≡ with s x′ y′ z′ sent used phase
 alike s {sent = sent} {used = used} {phase = phase} e f g = λ i. with s (e i) (f i) (g i) sent used phase
-
-pub no-bool : {A : Type 0} → true ≡ false → A
-no-bool e = absurd (never (sym e))
 
 -- with nothing out: a frame was sent in the attempt only if the balance point moved, and with no resend and none sent it is at B
 pub record Fresh (k : ℕ) (sent : Bool) (used : ℕ) : Type 0 where
@@ -173,12 +170,12 @@ module _ (s : Transfer) (k f : ℕ) (h : BaseOf s k f) (room : s .balance < endO
 
   pub fresh : f ≡ 0 → Attempted f s → Fresh k (s .sent) (s .used)
   fresh z (inl a) = absurd (omega (arith, a .0))
-  fresh z (inr (y, inl a)) = record { moved = λ e. up k balance-at (a .1); still = λ e u. no-bool (sym (a .0) ∙ e) }
+  fresh z (inr (y, inl a)) = record { moved = λ e. up k balance-at (a .1); still = λ e u. absurd (clash _ (a .0) e) }
     where
       up : (j : ℕ) → s .offset + j * s .size ≡ s .balance → s .offset < s .balance → 1 ≤ j
       up zero q l = absurd (omega arith)
       up (suc j) q l = omega arith
-  fresh z (inr (y, inr a)) = record { moved = λ e. no-bool (sym e ∙ a .0); still = λ e u. flat k balance-at u (a .1) }
+  fresh z (inr (y, inr a)) = record { moved = λ e. absurd (clash _ e (a .0)); still = λ e u. flat k balance-at u (a .1) }
     where
       flat : (j : ℕ) → s .offset + j * s .size ≡ s .balance → s .used ≡ 0 → (s .balance ≡ s .offset) ⊎ (0 < s .used) → j ≡ 0
       flat zero q u w = refl

@@ -1,8 +1,8 @@
 -- A call on a transfer is refused exactly by the first of its grounds that holds, since each of its tests decides one ground, and then
 -- the state is as it was. Assumes nothing.
 use Prim.Native.Nat.{ℕ, _-_, _≤_}
-use mathlib.Core.Bool.{Bool, true, false, not, cond}
-use mathlib.Core.List.{List, [], _∷_}
+use mathlib.Core.Bool.{true, false, not}
+use mathlib.Core.List.{List}
 use mathlib.Core.Logic.{inl, inr, _↔_}
 use mathlib.Core.Path.{_≡_, refl, sym, ap, subst⁻¹, _∙_}
 use lib.Dec.{leb, eqb}
@@ -21,7 +21,7 @@ use Rattle.transfer.specs.declared.Transfer.{Transfer}
 use Rattle.transfer.specs.declared.Stepped.{Stepped}
 use Rattle.transfer.specs.declared.Answer.{Answer}
 use Rattle.transfer.specs.declared.Phase.{Phase}
-use Rattle.laws.proofs.Tests.{Says, most, equal, either}
+use Rattle.laws.proofs.Tests.{Says, most, equal, either, unless}
 use Rattle.refusals.proofs.Causes.{by-causes}
 use Rattle.transfer.proofs.Facts.{in-range}
 use Rattle.transfer.proofs.Calls.{work, drain-phase}
@@ -114,7 +114,7 @@ taken cancel s = refl
 
 module _ (bound : ℕ) (two : 2 ≤ bound) (s : Transfer) where
   broken-says : Says (not (rules bound s)) (Broken bound s)
-  broken-says = causes.negated (exact bound two s)
+  broken-says = unless (exact bound two s)
 
   answers : Decides (answerCauses bound s) (answerGrounds bound s)
   answers = cons broken-says (cons (either (idle-says (s .phase)) (equal (s .unanswered) 0)) nil)
@@ -124,7 +124,7 @@ module _ (bound : ℕ) (two : 2 ≤ bound) (s : Transfer) where
 
   pub decides : (c : Call) → Decides (causesOf bound c s) (groundsOf bound c s)
   unfolding causesOf
-  decides (start b n m r) = cons (either (causes.negated (in-range b n m r)) broken-says) (cons (unfinished-says (s .phase)) nil)
+  decides (start b n m r) = cons (either (unless (in-range b n m r)) broken-says) (cons (unfinished-says (s .phase)) nil)
   decides frame =
       cons broken-says (cons (idle-says (s .phase)) (cons (draining-says (s .phase)) (cons (equal (s .read) (endOf s)) (cons (most bound (s .unanswered)) nil))))
   decides ack = answers
@@ -134,7 +134,7 @@ module _ (bound : ℕ) (two : 2 ≤ bound) (s : Transfer) where
   decides nexus = ends
   decides cancel = ends
 
-one : (j k : Refusal) → Answer.Refused j ≡ Answer.Refused k → j ≡ k
+pub one : (j k : Refusal) → Answer.Refused j ≡ Answer.Refused k → j ≡ k
 one j k e = cc
 
 module _ (bound : ℕ) (two : 2 ≤ bound) (s : Transfer) (c : Call) (k : Refusal) where

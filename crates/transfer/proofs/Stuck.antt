@@ -8,6 +8,7 @@ use mathlib.Core.Path.{_≡_, refl, sym, ap, subst, _∙_}
 use native.Mathlib.Omega.{arith}
 use lib.Dec.{ltb}
 use borrow.Author.Tests.{ltb-true, ltb-false}
+use Rattle.laws.proofs.Bools.{impossible}
 use Rattle.transfer.specs.Rules.{endOf, frames, rules}
 use Rattle.transfer.specs.Steps.{unfinished}
 use Rattle.transfer.specs.Calls.{Call, frame, ack, timeout, stepOf, run, Reachable}
@@ -18,7 +19,7 @@ use Rattle.transfer.proofs.Facts.{sent-by, RunRule, DrainRule}
 use Rattle.transfer.proofs.Shape.{BaseOf, Live, frames-reach, rules-good}
 use Rattle.transfer.proofs.Calls.{work}
 use Rattle.transfer.proofs.Sound.{live, run-rule, drain-rule}
-use Rattle.transfer.proofs.Moves.{at, done, Fresh, no-bool, four, idle-kept, out-kept, frame-step, ack-one, ack-more, ack-done, drop-step}
+use Rattle.transfer.proofs.Moves.{at, done, Fresh, four, idle-kept, out-kept, frame-step, ack-one, ack-more, ack-done, drop-step}
 use Rattle.transfer.proofs.Moves.{inside, idle-is, out-is, fresh}
 use Rattle.transfer.proofs.Exact.{sound}
 
@@ -53,7 +54,7 @@ module _ (bound : ℕ) (two : 2 ≤ bound) (s : Transfer) (h : InRange (s .offse
       by-call bound (at s k 0 0 sent used Phase.Run) (at s k 1 1 true used Phase.Run) frame
       (frame-step bound s h k 0 0 sent used (idle-kept bound s h k sent used a u w) (omega arith) (omega arith))
       (last-ack k 1 used a (omega arith) u (omega arith)
-      (λ near. idle left (k + 1) true used near (omega arith) u (record { moved = λ e. omega arith; still = λ e z. no-bool e })))
+      (λ near. idle left (k + 1) true used near (omega arith) u (record { moved = λ e. omega arith; still = λ e z. impossible (sym e) })))
 
   -- enough frames for all
   enough : (k : ℕ) → s .count ≤ (k + frames (s .count) (s .size)) * s .size
@@ -67,7 +68,7 @@ module _ (bound : ℕ) (two : 2 ≤ bound) (s : Transfer) (h : InRange (s .offse
       → used ≤ s .resends → Finishes bound (at s k f (suc d) true used Phase.Run)
   out zero k f used a c l o u =
       last-ack k f used a c u l
-      (λ near. idle (frames (s .count) (s .size)) (k + f) true used near (enough (k + f)) u (record { moved = λ e. omega arith; still = λ e z. no-bool e }))
+      (λ near. idle (frames (s .count) (s .size)) (k + f) true used near (enough (k + f)) u (record { moved = λ e. omega arith; still = λ e z. impossible (sym e) }))
   out (suc d) k f used a c l o u =
       by-call bound (at s k f (suc (suc d)) true used Phase.Run) (at s k f (suc d) true used Phase.Run) ack
       (ack-more bound s h k f d true used (out-kept bound s h k f (suc d) used a c u l o)) (out d k f used a c (omega arith) (omega arith) u)
@@ -92,7 +93,7 @@ module _ (bound : ℕ) (two : 2 ≤ bound) (s : Transfer) (k f : ℕ) (h : BaseO
       (by-call bound (at s k f (s .unanswered) true (s .used) Phase.Drain) (at s k 0 0 false (s .used + 1) Phase.Run) timeout
       (drop-step bound s (h .setup) k f (s .unanswered) (s .used) (subst (λ (t : Transfer). rules bound t ≡ true) (sym is) kept) some again near)
       (idle bound two s (h .setup) (frames (s .count) (s .size)) k false (s .used + 1) near (enough bound two s (h .setup) k) (omega arith)
-      (record { moved = λ t. no-bool (sym t); still = λ t z. absurd (omega arith) })))
+      (record { moved = impossible; still = λ t z. absurd (omega arith) })))
 
 -- from every unfinished state that some START and calls leave, some calls deliver all
 pub unstuck : (bound : ℕ) → 2 ≤ bound → (s : Transfer) → Reachable bound s → unfinished (s .phase) ≡ true → Finishes bound s

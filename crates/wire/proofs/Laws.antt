@@ -8,10 +8,10 @@ use native.Mathlib.Omega.{arith}
 use native.Mathlib.Numerals.{add-one}
 use mathlib.Core.List.{List, [], _∷_, _++_, append-assoc, append-nil}
 use lib.Dec.{leb, ltb}
-use lib.ListN.{length, getD, take, drop, set, replicate, length-append, length-set, length-drop, take-append-drop, replicate-append-replicate, List·getD-append}
+use lib.ListN.{length, getD, take, drop, set, replicate, length-append, length-set, length-drop, replicate-append-replicate, List·getD-append}
 use lib.Arith.{digits-div, digits-mod}
 use lib.Seq.{take-length, drop-drop, drop-set-lt, drop-cons, getD-set-same, getD-append-add, take-suc, getD-take, getD-drop, getD-at, length-take-le}
-use borrow.Author.Tests.{le-leb, lt-leb, leb-true, leb-false, ltb-true, ltb-false}
+use borrow.Author.Tests.{le-leb, lt-leb, ltb-true, ltb-false}
 use borrow.Rule.Slice.PartMut.{putMid}
 use Rattle.laws.proofs.Bools.{and-true, and-false}
 use Rattle.laws.proofs.Lists.{lent-tail, back-tail}
@@ -168,14 +168,6 @@ stores-are s (suc n) v h =
     let s′ = set s n x in
     let tail : drop n s′ ≡ x ∷ drop (suc n) s = drop-cons s′ n 0 (omega (arith, length-set s n x)) ∙ rw (getD-set-same s n x 0 (omega arith), drop-set-lt (suc n) s n x (omega arith)) in
     stores-are s′ n (v / 256) (omega (arith, length-set s n x)) ∙ rw (tail, append-assoc)
-
--- a test of a sum, as a test of a difference
-pub sum-test : (len at n : ℕ) → n ≤ len → leb at (len - n) ≡ leb (at + n) len
-sum-test len at n h = by (leb at (len - n)) refl
-  where
-    by : (t : Bool) → leb at (len - n) ≡ t → t ≡ leb (at + n) len
-    by true e = sym (le-leb (at + n) len (omega (arith, leb-true at (len - n) e)))
-    by false e = sym (lt-leb (at + n) len (omega (arith, leb-false at (len - n) e)))
 
 module _ (s : List ℕ) (at n : ℕ) where
   pub fit : n ≤ 8 → at + n ≤ length s → fits s at n ≡ true

@@ -1,10 +1,10 @@
 -- What the walk over the table shows of each row, put over any calls: a refused call changes nothing, an unexpected one only the
 -- count, and every other is a row. Assumes nothing.
-use mathlib.Core.Bool.{Bool, true, false, not, cond, _&&_, _||_}
+use mathlib.Core.Bool.{Bool, true, false, not, cond, _&&_}
 use mathlib.Core.List.{[], _∷_}
 use mathlib.Core.Path.{_≡_, refl, subst, subst⁻¹}
 use borrow.Author.Tests.{not-false}
-use Rattle.laws.proofs.Bools.{never, and-left, and-right, and-true}
+use Rattle.laws.proofs.Bools.{and-left, and-right, and-true, implied, implies}
 use Rattle.refusals.proofs.Causes.{NoneGiven, by-causes}
 use Rattle.refusals.specs.declared.Refusal.{Refusal}
 use Rattle.open_frame.specs.Open.{headListed, readOpen}
@@ -39,14 +39,6 @@ took Q f e s good given = by (isListed f e s) refl
 -- the frames of a state that keeps the rules
 abbrev pub Fielded : OpenFrame → Type 0
 Fielded g = headListed (g .head) ≡ true
-
-implied : (a b : Bool) → not a || b ≡ true → a ≡ true → b ≡ true
-implied true b e q = e
-implied false b e q = absurd (never q)
-
-implies : (a b : Bool) → (a ≡ true → b ≡ true) → not a || b ≡ true
-implies true b h = h refl
-implies false b h = refl
 
 each-of : (h : Held) → fielded h ≡ true → Each Fielded h
 each-of Held.Nothing e = tt

@@ -5,7 +5,7 @@ use mathlib.Core.List.{List, [], _∷_, _++_}
 use mathlib.Core.Path.{_≡_, refl, sym, ap, subst, subst⁻¹, _∙_}
 use native.Mathlib.Omega.{arith}
 use lib.ListN.{length}
-use Rattle.laws.proofs.Bools.{never}
+use Rattle.laws.proofs.Bools.{impossible, nor}
 use Rattle.refusals.proofs.Causes.{NoneGiven, Verdict, stopped, passes, verdict}
 use Rattle.refusals.specs.declared.Refusal.{Refusal}
 use Rattle.open_frame.specs.declared.OpenFrame.{OpenFrame}
@@ -24,9 +24,6 @@ use Rattle.xl_calls.proofs.Walk.{Good}
 use Rattle.xl_calls.proofs.Links.{Took, listed, other, took, Fielded, good-of, fields-given, by-call}
 use Rattle.xl_calls.proofs.Kept.{good-after}
 
-no : {A : Type 0} → false ≡ true → A
-no e = absurd (never e)
-
 -- a frame is held, and Q holds of it
 pub record Shows (Q : OpenFrame → Type 0) (h : Held) : Type 0 where
   pub frame : OpenFrame
@@ -34,7 +31,7 @@ pub record Shows (Q : OpenFrame → Type 0) (h : Held) : Type 0 where
   pub from : Q frame
 
 shows-of : (Q : OpenFrame → Type 0) (h : Held) → isFrame h ≡ true → Each Q h → Shows Q h
-shows-of Q Held.Nothing e q = no e
+shows-of Q Held.Nothing e q = impossible e
 shows-of Q (Held.Frame f) e q = record { frame = f; held = refl; from = q }
 
 or-more : (a : Bool) (b c : Bool) → (b ≡ true → c ≡ true) → a || b ≡ true → a || c ≡ true
@@ -50,23 +47,19 @@ unpacked (a ∷ b ∷ c ∷ []) e = e
 unpacked (a ∷ b ∷ c ∷ d ∷ more) e =
     or-more (names a) (names b || (names c || (names d || false))) (names b || (names c || (names d || some names more)))
     (or-more (names b) (names c || (names d || false)) (names c || (names d || some names more))
-    (or-more (names c) (names d || false) (names d || some names more) (or-more (names d) false (some names more) no))) e
-
-either-false : (a b : Bool) → a || b ≡ false → (a ≡ false) × (b ≡ false)
-either-false true b e = no (sym e)
-either-false false b e = (refl, e)
+    (or-more (names c) (names d || false) (names d || some names more) (or-more (names d) false (some names more) impossible))) e
 
 -- a list with no None is packed with no gap
 gaps : (acts rest : List Action) → some isNone acts ≡ false → gapless rest ≡ true → gapless (acts ++ rest) ≡ true
 gaps [] rest e g = g
 gaps (a ∷ acts) rest e g =
-    let x = either-false (isNone a) (some isNone acts) e in
+    let x = nor (isNone a) (some isNone acts) e in
     subst⁻¹ (λ (t : Bool). cond t (not (some (λ b. not (isNone b)) (acts ++ rest))) (gapless (acts ++ rest)) ≡ true) (x .0) (gaps acts rest (x .1) g)
 
 front : (acts more : List Action) → some isNone (acts ++ more) ≡ false → some isNone acts ≡ false
 front [] more e = refl
 front (a ∷ acts) more e =
-    let x = either-false (isNone a) (some isNone (acts ++ more)) e in
+    let x = nor (isNone a) (some isNone (acts ++ more)) e in
     (λ i. x .0 i || front acts more (x .1) i)
 
 no-gap : (acts : List Action) → some isNone acts ≡ false → gapless (listOf (packed acts)) ≡ true

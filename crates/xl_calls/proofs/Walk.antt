@@ -1,13 +1,13 @@
 -- Each row holds only frames that were held, remembered or brought by its event, holds one wherever a state or an action needs it, counts
 -- nothing, and has at most four actions: one walk over the table looks at every row. Assumes nothing.
 use Prim.Native.Nat.{ℕ, _≤_}
-use mathlib.Core.Bool.{Bool, true, false, cond, _&&_, _||_}
+use mathlib.Core.Bool.{Bool, true, false, _&&_, _||_}
 use mathlib.Core.List.{List, [], _∷_}
 use mathlib.Core.Path.{_≡_, refl, ap, subst, subst⁻¹}
 use native.Mathlib.Omega.{arith}
 use lib.Dec.{lit≤}
 use lib.ListN.{length}
-use Rattle.laws.proofs.Bools.{never, and-left}
+use Rattle.laws.proofs.Bools.{and-left, impossible, or-left, or-right, by-test}
 use Rattle.open_frame.specs.declared.OpenFrame.{OpenFrame}
 use Rattle.xl_parts.specs.declared.Phase.{Phase}
 use Rattle.xl_parts.specs.declared.Phase.the-variants.{Xl0, Xl1, Xl2, Xl3, Xl4, Xl5, Xl6, Xl7, Xl8, Xl9, Xl10}
@@ -39,20 +39,6 @@ pub record Sound (Q : OpenFrame → Type 0) (count most : ℕ) (x : Effect) : Ty
   pub few : length (x .actions) ≤ most
   pub real : some isNone (x .actions) ≡ false
 
-no : {A : Type 0} → false ≡ true → A
-no e = absurd (never e)
-
-by-test : (P : Effect → Type 0) (t : Bool) {x y : Effect} → P x → P y → P (cond t x y)
-by-test P true p q = p
-by-test P false p q = q
-
-or-left : {a : Bool} (b : Bool) → a ≡ true → a || b ≡ true
-or-left b e = ap (λ (t : Bool). t || b) e
-
-or-right : (a : Bool) {b : Bool} → b ≡ true → a || b ≡ true
-or-right true e = refl
-or-right false e = e
-
 -- a state whose frames have Q, with a frame where it needs one
 pub record Good (Q : OpenFrame → Type 0) (s : State) : Type 0 where
   pub held : Each Q (s .memory .held)
@@ -62,26 +48,26 @@ pub record Good (Q : OpenFrame → Type 0) (s : State) : Type 0 where
 module _ (Q : OpenFrame → Type 0) (s : State) (good : Good Q s) where
   -- nothing changes
   still : (most : ℕ) → 0 ≤ most → Sound Q (s .count) most (stay [] s)
-  still most l = record { held = good .held; heard = good .heard; holds = good .holds; counts = refl; shows = λ e. no e; few = l; real = refl }
+  still most l = record { held = good .held; heard = good .heard; holds = good .holds; counts = refl; shows = impossible; few = l; real = refl }
 
   breaks-off : Sound Q (s .count) 3 (broken s)
-  breaks-off = record { held = good .held; heard = good .heard; holds = λ e. no e; counts = refl; shows = λ e. no e; few = lit≤ tt; real = refl }
+  breaks-off = record { held = good .held; heard = good .heard; holds = impossible; counts = refl; shows = impossible; few = lit≤ tt; real = refl }
 
   backs-off : (f g : OpenFrame) → Q g → Sound Q (s .count) 3 (backoff f g s)
   backs-off f g q = by-test (Sound Q (s .count) 3) (returns g f)
-      (record { held = q; heard = good .heard; holds = λ e. refl; counts = refl; shows = λ e. refl; few = lit≤ tt; real = refl })
-      (record { held = q; heard = good .heard; holds = λ e. refl; counts = refl; shows = λ e. refl; few = lit≤ tt; real = refl })
+      (λ r. record { held = q; heard = good .heard; holds = λ e. refl; counts = refl; shows = λ e. refl; few = lit≤ tt; real = refl })
+      (λ r. record { held = q; heard = good .heard; holds = λ e. refl; counts = refl; shows = λ e. refl; few = lit≤ tt; real = refl })
 
   crosses : (h : Held) (g : OpenFrame) → Q g → Sound Q (s .count) 3 (crossed h g s)
   crosses Nothing g q = still 3 (lit≤ tt)
-  crosses (Frame f) g q = by-test (Sound Q (s .count) 3) (stands (s .memory .aip) f g) (still 3 (lit≤ tt)) (backs-off f g q)
+  crosses (Frame f) g q = by-test (Sound Q (s .count) 3) (stands (s .memory .aip) f g) (λ t. still 3 (lit≤ tt)) (λ t. backs-off f g q)
 
   hears-in-6 : (h : Held) → Each Q h → Sound Q (s .count) 3 (heardIn6 h s)
   hears-in-6 Nothing q = still 3 (lit≤ tt)
   hears-in-6 (Frame g) q = crosses (s .memory .held) g q
 
   remembers : (m : Memory) → Each Q (m .heard) → Sound Q (s .count) 3 (remembered m s)
-  remembers m q = by-test (Sound Q (s .count) 3) (m .broke) breaks-off (hears-in-6 (m .heard) q)
+  remembers m q = by-test (Sound Q (s .count) 3) (m .broke) (λ t. breaks-off) (λ t. hears-in-6 (m .heard) q)
 
 more : {Q : OpenFrame → Type 0} {count : ℕ} {x : Effect} → Sound Q count 3 x → Sound Q count 4 x
 more p = let l = p .few in record { held = p .held; heard = p .heard; holds = p .holds; counts = p .counts; shows = p .shows; few = omega (arith, l); real = p .real }
@@ -104,7 +90,7 @@ module _ (Q : OpenFrame → Type 0) (f : OpenFrame) (ev : Event) (s : State) (go
 
   -- into XL0, or on to a state that needs no frame
   idle : (acts : List Action) → some names acts ≡ false → length acts ≤ 4 → some isNone acts ≡ false → Right (record { state = entered Xl0 s; actions = acts })
-  idle acts mute l r = record { held = tt; heard = tt; holds = λ e. no e; counts = refl; shows = λ e. no (subst (λ (t : Bool). t ≡ true) mute e); few = l; real = r }
+  idle acts mute l r = record { held = tt; heard = tt; holds = impossible; counts = refl; shows = λ e. impossible (subst (λ (t : Bool). t ≡ true) mute e); few = l; real = r }
 
   -- the frame stays held, and is there
   module _ (frame : isFrame (s .memory .held) ≡ true) where
@@ -118,15 +104,15 @@ module _ (Q : OpenFrame → Type 0) (f : OpenFrame) (ev : Event) (s : State) (go
     kept3 = record { held = good .held; heard = good .heard; holds = λ e. frame; counts = refl; shows = λ e. frame; few = lit≤ tt; real = refl }
 
     kept4 : (k : Reject) → Right (to Xl4 (Action.Transmit (Primitive.OpenReject k) ∷ []) s)
-    kept4 k = record { held = good .held; heard = good .heard; holds = λ e. frame; counts = refl; shows = λ e. no e; few = lit≤ tt; real = refl }
+    kept4 k = record { held = good .held; heard = good .heard; holds = λ e. frame; counts = refl; shows = impossible; few = lit≤ tt; real = refl }
 
     asks : Right (timedOut s)
     asks = by-test Right (s .memory .blocked)
-        (record { held = good .held; heard = good .heard; holds = λ e. frame; counts = refl; shows = λ e. frame; few = lit≤ tt; real = refl })
-        (still Q s good 4 (lit≤ tt))
+        (λ t. record { held = good .held; heard = good .heard; holds = λ e. frame; counts = refl; shows = λ e. frame; few = lit≤ tt; real = refl })
+        (λ t. still Q s good 4 (lit≤ tt))
 
     forwards : Right (forwarded s)
-    forwards = by-test Right (s .memory .broke) (more (breaks-off Q s good)) kept3
+    forwards = by-test Right (s .memory .broke) (λ t. more (breaks-off Q s good)) (λ t. kept3)
 
     sent : Right (sentIn5 s)
     sent = first-of (remembers Q (remembering forgets (entered Xl6 s)) (record { held = good .held; heard = tt; holds = λ e. frame }) (s .memory) (good .heard))
@@ -147,27 +133,27 @@ module _ (Q : OpenFrame → Type 0) (f : OpenFrame) (ev : Event) (s : State) (go
     heard = subst⁻¹ (Each Q) same-heard (good .heard);
     holds = λ e. subst⁻¹ (λ (h : Held). isFrame h ≡ true) same-held (good .holds e);
     counts = refl;
-    shows = λ e. no (subst (λ (t : Bool). t || false ≡ true) mute e);
+    shows = λ e. impossible (subst (λ (t : Bool). t || false ≡ true) mute e);
     few = lit≤ tt;
     real = ap (λ (t : Bool). t || false) real;
   }
 
   breaks-noted : Right (stay [] (remembering breaks s))
-  breaks-noted = record { held = good .held; heard = good .heard; holds = good .holds; counts = refl; shows = λ e. no e; few = lit≤ tt; real = refl }
+  breaks-noted = record { held = good .held; heard = good .heard; holds = good .holds; counts = refl; shows = impossible; few = lit≤ tt; real = refl }
 
   connects : (a : Action) → names a ≡ false → isNone a ≡ false → Right (to Xl7 (a ∷ []) s)
-  connects a mute real = record { held = good .held; heard = good .heard; holds = λ e. no e; counts = refl; shows = λ e. no (subst (λ (t : Bool). t || false ≡ true) mute e); few = lit≤ tt; real = ap (λ (t : Bool). t || false) real }
+  connects a mute real = record { held = good .held; heard = good .heard; holds = impossible; counts = refl; shows = λ e. impossible (subst (λ (t : Bool). t || false ≡ true) mute e); few = lit≤ tt; real = ap (λ (t : Bool). t || false) real }
 
   closes-in-7 : Right (closing s)
   closes-in-7 = by-test Right (s .memory .close)
-      (idle (Action.Transmit Primitive.Close ∷ []) refl (lit≤ tt) refl)
-      (record { held = good .held; heard = good .heard; holds = λ e. no e; counts = refl; shows = λ e. no e; few = lit≤ tt; real = refl })
+      (λ t. idle (Action.Transmit Primitive.Close ∷ []) refl (lit≤ tt) refl)
+      (λ t. record { held = good .held; heard = good .heard; holds = impossible; counts = refl; shows = impossible; few = lit≤ tt; real = refl })
 
   in9 : Right (to Xl9 [] s)
-  in9 = record { held = good .held; heard = good .heard; holds = λ e. no e; counts = refl; shows = λ e. no e; few = lit≤ tt; real = refl }
+  in9 = record { held = good .held; heard = good .heard; holds = impossible; counts = refl; shows = impossible; few = lit≤ tt; real = refl }
 
   in10 : Right (to Xl10 [] s)
-  in10 = record { held = good .held; heard = good .heard; holds = λ e. no e; counts = refl; shows = λ e. no e; few = lit≤ tt; real = refl }
+  in10 = record { held = good .held; heard = good .heard; holds = impossible; counts = refl; shows = impossible; few = lit≤ tt; real = refl }
 
   out : Right (to Xl0 [] s)
   out = idle [] refl (lit≤ tt) refl
@@ -207,7 +193,7 @@ module _ (Q : OpenFrame → Type 0) (f : OpenFrame) (ev : Event) (s : State) (go
   )
   walk Xl4 e x = ((λ m. out), tt)
   walk Xl5 e x = (
-    (λ m. record { held = good .held; heard = by-open m; holds = good .holds; counts = refl; shows = λ e. no e; few = lit≤ tt; real = refl }),
+    (λ m. record { held = good .held; heard = by-open m; holds = good .holds; counts = refl; shows = impossible; few = lit≤ tt; real = refl }),
     ((λ m. sent (frame-in Xl5 refl e)), tt),
   )
   walk Xl6 e x = (

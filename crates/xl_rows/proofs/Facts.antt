@@ -1,11 +1,10 @@
 -- Single rows of the table, each as what the table does with an event in a state: a row is looked up by computation, whatever else the
 -- link remembers. Assumes nothing.
 use Prim.Native.Nat.{ℕ}
-use mathlib.Core.Bool.{Bool, true, false, not, cond, _&&_, _||_}
-use mathlib.Core.List.{List, [], _∷_}
-use mathlib.Core.Path.{_≡_, refl, ap, _∙_}
+use mathlib.Core.Bool.{true, _||_}
+use mathlib.Core.List.{[], _∷_}
+use mathlib.Core.Path.{_≡_, refl, _∙_}
 use borrow.Author.Tests.{eq-eqb}
-use Rattle.laws.proofs.Bools.{never, and-true}
 use Rattle.open_frame.proofs.Priority.{neither}
 use Rattle.open_frame.specs.Priority.{higherThan}
 use Rattle.open_frame.specs.declared.OpenFrame.{OpenFrame}
@@ -22,18 +21,12 @@ use Rattle.xl_parts.specs.declared.Seen.{Seen}
 use Rattle.xl_parts.specs.declared.Memory.{Memory}
 use Rattle.xl_parts.specs.declared.State.{State}
 use Rattle.xl_parts.specs.Parts.{nothing, holds, breaks, forgets, entered, entry, stay, first}
-use Rattle.xl_rows.specs.Table.{seen, returns, takes}
-use Rattle.xl_rows.proofs.Crossing.{unmoved}
+use Rattle.xl_rows.specs.Table.{seen, takes}
+use Rattle.xl_rows.proofs.Crossing.{unmoved, moved}
 
 -- a link in the state p that remembers m, after n unexpected events
 abbrev pub link : Phase → Memory → ℕ → State
 link p m n = record { phase = p; memory = m; count = n }
-
--- the middle of three, where a or b holds, and t
-picked : {A : Type 0} (a b t : Bool) (stays back on : A) → a || b ≡ true → t ≡ true → cond (not a && not b) stays (cond t back on) ≡ back
-picked true b t stays back on e p = ap (λ (u : Bool). cond u back on) p
-picked false true t stays back on e p = ap (λ (u : Bool). cond u back on) p
-picked false false t stays back on e p = absurd (never e)
 
 module _ (m : Memory) (n : ℕ) where
   -- 01 XL.22: a link that is rejected in XL3 transmits that OPEN_REJECT and is idle, with nothing in memory but the count
@@ -62,4 +55,4 @@ module _ (m : Memory) (n : ℕ) where
 
     -- 01 XL.32: one that backs off, and comes back on the path of f, goes to XL2 with BackoffReversePath and no SendOpen
     pub reverse-sends-no-open : seen (m .aip) || higherThan g f ≡ true → g .head .destination ≡ f .head .source → g .head .rate ≡ f .head .rate → takes g (Event.Line Primitive.Open) (link Phase.Xl6 (holds f m) n) ≡ record { state = entered Phase.Xl2 (link Phase.Xl6 (holds g m) n); actions = Action.Send Message.BackoffReversePath ∷ [] }
-    reverse-sends-no-open moves destination rate = picked (seen (m .aip)) (higherThan g f) (returns g f) _ _ _ moves (and-true (eq-eqb _ _ destination) (eq-eqb _ _ rate))
+    reverse-sends-no-open moves destination rate = moved (link Phase.Xl6 (holds f m) n) f g refl moves ∙ rw (eq-eqb _ _ destination, eq-eqb _ _ rate)

@@ -1,5 +1,5 @@
 use mathlib.Core.Bool.{not}
-use Rattle.port_rules.specs.Rules.{hasFrameOut}
+use Rattle.port_parts.specs.Parts.{hasFrameOut}
 use Rattle.port_rows.specs.Calls.{framed, phyAt, phyCauses}
 use Rattle.port_core.proofs.Checks.{settled}
 use Rattle.port_rows.specs.Calls.{frameStatusOf}

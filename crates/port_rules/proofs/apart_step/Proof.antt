@@ -1,22 +1,17 @@
 -- Of two destinations neither key nor nexus is shared, so that `kept` is all that is left; of one, the tests are those of the rule.
 -- Assumes nothing.
-use mathlib.Core.Path.{_≡_, refl}
-use mathlib.Core.Bool.{Bool, true, false, _&&_, _||_}
+use mathlib.Core.Path.{refl}
 use borrow.Author.Needs.{needs}
 use borrow.Author.Tests.{ne-eqb}
+use Rattle.laws.proofs.Bools.{and-alone, or-right}
 use Rattle.port_parts.specs.Parts.{isFree}
 use Rattle.port_rules.proofs.apart_step.Statement.{statement}
 use Rattle.port_rules.proofs.apart_step.Tie as tie
 
-nothing-shared : (kept free : Bool) → kept ≡ kept && (free || true)
-nothing-shared true true = refl
-nothing-shared true false = refl
-nothing-shared false free = refl
-
 returns : tie.Need-returns
 returns c =
     let a = c .before .before .before .before .args in
-    rw (ne-eqb _ _ (c .if1 .taken)) (nothing-shared (a .kept) (isFree (a .r)))
+    rw (ne-eqb _ _ (c .if1 .taken)) (and-alone (a .kept) (or-right (isFree (a .r)) refl))
 
 same-timer-requires : tie.Need-same-timer-requires
 same-timer-requires c κs = search needs

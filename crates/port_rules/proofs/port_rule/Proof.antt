@@ -8,8 +8,8 @@ use native.Mathlib.Numerals.{add-one}
 use lib.Dec.{ltb}
 use lib.ListN.{getD}
 use Rattle.laws.specs.Folds.{allBelow}
-use Rattle.port_parts.specs.Parts.{noPhy, isInProgress}
-use Rattle.port_rules.specs.Rules.{inRange, phyRule, portRule, pairedAt, paired}
+use Rattle.port_parts.specs.Parts.{noPhy, isInProgress, inRange}
+use Rattle.port_rules.specs.Rules.{phyRule, portRule, pairedAt, paired}
 use Rattle.port_rules.proofs.port_rule.Statement.{statement}
 use Rattle.port_rules.proofs.port_rule.Tie as tie
 

@@ -1,15 +1,11 @@
 -- A frame whose fields are listed is not asked about, and of another it is told whether it goes with the event. Assumes nothing.
-use mathlib.Core.Bool.{Bool, true, false, not, _&&_}
-use mathlib.Core.Path.{_≡_, refl, sym, ap, _∙_}
+use mathlib.Core.Bool.{not}
+use mathlib.Core.Path.{sym, ap, _∙_}
 use borrow.Author.Needs.{needs}
-use Rattle.laws.proofs.Bools.{and-false}
+use Rattle.laws.proofs.Bools.{and-false, and-alone}
 use Rattle.xl.specs.Steps.{framed}
 use Rattle.xl.proofs.brings_unlisted.Statement.{statement}
 use Rattle.xl.proofs.brings_unlisted.Tie as tie
-
-alone : (a : Bool) {b : Bool} → b ≡ true → a ≡ a && b
-alone true e = sym e
-alone false e = refl
 
 listed-requires : tie.Need-listed-requires
 listed-requires c κs = search needs
@@ -21,7 +17,7 @@ returns : tie.Need-returns
 returns c = sym (and-false (framed (c .before .before .before .args .e)) (ap not (sym (c .before .listed .ensures) ∙ c .if1 .taken)))
 
 returns-2 : tie.Need-returns-2
-returns-2 c = c .has-frame .ensures ∙ alone (framed (c .before .before .before .before .args .e)) (ap not (sym (c .before .before .listed .ensures) ∙ c .before .if1 .left))
+returns-2 c = c .has-frame .ensures ∙ and-alone (framed (c .before .before .before .before .args .e)) (ap not (sym (c .before .before .listed .ensures) ∙ c .before .if1 .left))
 
 pub brings-unlisted-spec : {M : Type 1} → statement M
 brings-unlisted-spec = tie.close (tie.spec listed-requires returns has-frame-requires returns-2)

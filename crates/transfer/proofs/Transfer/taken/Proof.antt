@@ -1,8 +1,9 @@
 -- `taken` counts the frames out only in a placed state, and elsewhere asks for zeros alone, as `rules` does. Assumes nothing.
 use Prim.Native.Nat.{ℕ}
 use mathlib.Core.Path.{_≡_, refl, sym, ap, _∙_}
-use mathlib.Core.Bool.{Bool, true, false, _||_}
+use mathlib.Core.Bool.{_||_}
 use borrow.Author.Needs.{needs}
+use Rattle.laws.proofs.Bools.{or-alone}
 use Rattle.transfer.specs.Rules.{endOf, zeros, placed, phaseRule, rules}
 use Rattle.transfer.proofs.Facts.{placed-says}
 use Rattle.transfer.proofs.Transfer.taken.Statement.{statement}
@@ -16,10 +17,6 @@ end-requires c κs = search needs
 
 placed-requires : tie.Need-placed-requires
 placed-requires c κs = search needs
-
-alone : (t : Bool) → t ≡ t || false
-alone true = refl
-alone false = refl
 
 -- what the test tests
 is-placed : (c : tie.After-placed) → let s = c .before .before .before .args .self in placed (endOf s) s ≡ c .placed .result
@@ -48,7 +45,7 @@ returns c =
 
 returns-2 : tie.Need-returns-2
 unfolding rules
-returns-2 c = rw (is-placed (c .before) ∙ c .if1 .left) (c .before .before .before .zeros .ensures ∙ alone (zeros (c .before .before .before .before .args .self)))
+returns-2 c = rw (is-placed (c .before) ∙ c .if1 .left) (c .before .before .before .zeros .ensures ∙ or-alone (zeros (c .before .before .before .before .args .self)) refl)
 
 pub taken-spec : {M : Type 1} → statement M
 taken-spec =
