@@ -787,10 +787,12 @@ static struct said opened(struct model *m, const struct order *o)
 	return about(m, item->cancelled ? CLOSE : SEND, item, line);
 }
 
-/* 01 PORT.18 01 PORT.24 */
-static const struct {
+struct effect {
 	bool retried, starts, stops;
-} reasons[REASONS] = {
+};
+
+/* 01 PORT.18 01 PORT.24 */
+static const struct effect reasons[REASONS] = {
 	[NO_DESTINATION] = {true, true, false},
 	[BAD_DESTINATION] = {false, false, false},
 	[WRONG_DESTINATION] = {false, false, false},
