@@ -103,11 +103,11 @@ module _ (Q : OpenFrame → Type 0) (s : State) (good : Good Q s) where
     good-call = by-call (λ (c : Call) (r : Stepped). ((f : OpenFrame) → In f (brought c) → Q f) → Good Q (r .state)) s (λ c k all. good) (λ c f e off from all. good-after Q f e s good (λ fr. all f (from fr))) c all
 
     pub shown : some names (listOf (callOf c s .actions)) ≡ true → Shows Q (callOf c s .state .memory .held)
-    shown = by-call (λ (c : Call) (r : Stepped). ((f : OpenFrame) → In f (brought c) → Q f) → some names (listOf (r .actions)) ≡ true → Shows Q (r .state .memory .held)) s (λ c k all e. no e) (λ c f e off from all. by f e (took Q f e s good (λ fr. all f (from fr)))) c all
+    shown = by-call (λ (c : Call) (r : Stepped). ((f : OpenFrame) → In f (brought c) → Q f) → some names (listOf (r .actions)) ≡ true → Shows Q (r .state .memory .held)) s (λ c k all e. impossible e) (λ c f e off from all. by f e (took Q f e s good (λ fr. all f (from fr)))) c all
       where
         by : (f : OpenFrame) (e : Event) → Took Q f e s → some names (listOf (packed (takes f e s .actions))) ≡ true → Shows Q (takes f e s .state .memory .held)
         by f e (listed l x) h = shows-of Q (takes f e s .state .memory .held) (x .shows (unpacked (takes f e s .actions) h)) (x .held)
-        by f e (other l x) h = no (subst (λ (y : Effect). some names (listOf (packed (y .actions))) ≡ true) x h)
+        by f e (other l x) h = impossible (subst (λ (y : Effect). some names (listOf (packed (y .actions))) ≡ true) x h)
 
 weaker : (Q R : OpenFrame → Type 0) → ((g : OpenFrame) → Q g → R g) → (h : Held) → Each Q h → Each R h
 weaker Q R m Held.Nothing q = tt
