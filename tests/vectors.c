@@ -234,6 +234,7 @@ static void write_data(const struct data_vector *vector)
 	check(memcmp(frame, expected, sizeof frame) == 0, "DATA write, %s: bytes", vector->member);
 }
 
+/* 01 PROMISE.5 */
 int main(void)
 {
 	for (size_t i = 0; i < sizeof opens / sizeof *opens; i++) {

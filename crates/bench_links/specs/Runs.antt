@@ -3,7 +3,6 @@ use Prim.Native.Nat.{ℕ, zero, suc, _+_, _*_, _/_, _%_}
 use mathlib.Core.List.{List, [], _∷_}
 use lib.ListN.{length, getD}
 use Rattle.open_frame.specs.declared.OpenFrame.{OpenFrame}
-use Rattle.xl_parts.specs.declared.Phase.{Phase}
 use Rattle.xl_parts.specs.declared.Wait.{Wait}
 use Rattle.xl_parts.specs.declared.Reject.{Reject}
 use Rattle.xl_parts.specs.declared.Denial.{Denial}
@@ -16,7 +15,7 @@ use Rattle.xl_parts.specs.declared.BreakEvent.{BreakEvent}
 use Rattle.xl_parts.specs.declared.Event.{Event}
 use Rattle.xl_parts.specs.declared.Action.{Action}
 use Rattle.xl_parts.specs.declared.Stepped.{Stepped}
-use Rattle.xl_parts.specs.Parts.{ready}
+use Rattle.xl_parts.specs.Parts.{phaseNumber, ready}
 use Rattle.xl.specs.Steps.{stepOf}
 use Rattle.bench_links.specs.declared.Tally.{Tally}
 
@@ -66,26 +65,13 @@ weightOf (Action.Send m) = 2
 weightOf (Action.RequestPath t) = 3
 weightOf (Action.Break b) = 4
 
-abbrev pub phaseOf : Phase → ℕ
-phaseOf Phase.Xl0 = 0
-phaseOf Phase.Xl1 = 1
-phaseOf Phase.Xl2 = 2
-phaseOf Phase.Xl3 = 3
-phaseOf Phase.Xl4 = 4
-phaseOf Phase.Xl5 = 5
-phaseOf Phase.Xl6 = 6
-phaseOf Phase.Xl7 = 7
-phaseOf Phase.Xl8 = 8
-phaseOf Phase.Xl9 = 9
-phaseOf Phase.Xl10 = 10
-
 abbrev pub mixOf : ℕ → ℕ → ℕ → ℕ → ℕ → ℕ → ℕ
 mixOf sum p a b c d = sum % 65536 * 31 + (p % 16 * 4096 + (a % 8 * 512 + (b % 8 * 64 + (c % 8 * 8 + d % 8))))
 
 abbrev pub tallied : Stepped → ℕ → Tally
 tallied r sum = record {
   state = r .state;
-  sum = mixOf sum (phaseOf (r .state .phase)) (weightOf (r .actions .first)) (weightOf (r .actions .second)) (weightOf (r .actions .third)) (weightOf (r .actions .fourth));
+  sum = mixOf sum (phaseNumber (r .state .phase)) (weightOf (r .actions .first)) (weightOf (r .actions .second)) (weightOf (r .actions .third)) (weightOf (r .actions .fourth));
 }
 
 abbrev pub turnOf : OpenFrame → Event → Tally → Tally

@@ -1,7 +1,8 @@
 // What the bench measures: steps of document 01's XL on a run of events that C chooses. C lends no enum, so an event is a number
 // and the state stays within the call.
 ghost use mathlib.Core.Path.{_≡_};
-ghost use Rattle.bench_links.specs.Runs.{eventList, frameOf, weightOf, phaseOf, mixOf, turnOf, begun, afterAll};
+ghost use Rattle.xl_parts.specs.Parts.{phaseNumber};
+ghost use Rattle.bench_links.specs.Runs.{eventList, frameOf, weightOf, mixOf, turnOf, begun, afterAll};
 use open_frame::Awt;
 use open_frame::Head;
 use open_frame::OpenFrame;
@@ -91,7 +92,7 @@ fn weight(a: Action) -> u32
 }
 
 fn phase(p: Phase) -> u32
-    ensures { λ r. ⌜ r ≡ phaseOf p ⌝ }
+    ensures { λ r. ⌜ r ≡ phaseNumber p ⌝ }
 {
     match p {
         Phase::Xl0 => 0,

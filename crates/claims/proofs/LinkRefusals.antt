@@ -31,7 +31,7 @@ use Rattle.xl_rows.specs.Table.{takes}
 use Rattle.xl.specs.Rules.{fielded, isFrame, works, rules}
 use Rattle.xl.specs.Steps.{framed, causes, refused, opened, stepOf, receiveOf}
 use Rattle.xl.specs.Status.{inPhase, waiting, statusOf}
-use Rattle.xl.specs.declared.LinkStatus.{LinkStatus}
+use Rattle.xl_parts.specs.declared.LinkStatus.{LinkStatus}
 use Rattle.claims.specs.Causes.{Bytes}
 use Rattle.claims.specs.Links.{Brings, Working, in1, in2, in3, in4, in5, in6, Fields, Rules, stepGrounds, receiveGrounds, statusGrounds}
 use Rattle.claims.proofs.Calls.{Step, Receive, Status}
@@ -214,7 +214,7 @@ status-refuses s r is k =
       λ h. is ∙ if-first LinkStatus.Refused a link-one (link-apart s) d k h,
     )
 
--- 01 XL.4 01 XL.6 01 XL.39 01 REFUSAL.1 01 REFUSAL.2 01 REFUSAL.3 01 REFUSAL.11 01 REFUSAL.12
+-- 01 XL.4 01 XL.6 01 REFUSAL.1 01 REFUSAL.2 01 REFUSAL.3 01 REFUSAL.11 01 REFUSAL.12
 pub record LinkRefusals : Type 1 where
   pub step : (c : Step) → Refuses (stepGrounds (c .args .1 .1 .0) (c .args .1 .0) (c .args .0)) (c .args .0) (c .answer)
   pub receive : (c : Receive) → Bytes (now (c .args .1 .0)) → Refuses (receiveGrounds (now (c .args .1 .0)) (c .args .0)) (c .args .0) (c .answer)

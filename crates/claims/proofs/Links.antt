@@ -30,7 +30,8 @@ use Rattle.xl.specs.Steps.{stepOf}
 use Rattle.xl.specs.Status.{statusOf}
 use Rattle.xl_calls.specs.Links.{Call, event, bytes, callOf, run, surprises, brought, frames, names, some, listOf, gapless, In}
 use Rattle.xl_calls.specs.Met.{met, aipMet}
-use Rattle.xl_calls.specs.Path.{releases, leavesTo, oneOf}
+use Rattle.xl_parts.specs.Path.{releases}
+use Rattle.xl_calls.specs.Path.{leavesTo, oneOf}
 use Rattle.xl_calls.proofs.Walk.{Good}
 use Rattle.xl_calls.proofs.Kept.{kept, ready-keeps}
 use Rattle.xl_calls.proofs.Counts.{run-counts}
@@ -67,6 +68,7 @@ pub record Links : Type 0 where
   -- each call is the one that document 01's table defines
   pub steps : (c : Step) → c .answer ≡ callOf (event (c .args .1 .0) (c .args .1 .1 .0)) (c .args .0)
   pub receives : (c : Receive) → c .answer ≡ callOf (bytes (now (c .args .1 .0))) (c .args .0)
+  -- 01 XL.39
   pub statuses : (c : Status) → c .answer ≡ statusOf (c .args .0)
   -- every call takes a state that keeps the rules to one that keeps them, over any list of calls; so from XL0
   pub keeps : (cs : List Call) (s : State) → rules s ≡ true → rules (run cs s) ≡ true
@@ -78,9 +80,9 @@ pub record Links : Type 0 where
   -- byte for byte: the bytes of a frame that was received, but those that aren't carried
   pub same-bytes : (b : List ℕ) (f : OpenFrame) → Bytes b → readOpen b ≡ OpenRead.Frame f → openBytes f ≡ cleared notCarried b
   -- actions are in order, with no gap
-  pub in-order : (cs : List Call) (c : Call) → gapless (listOf (callOf c (after cs) .actions)) ≡ true
+  pub in-order : (s : State) → rules s ≡ true → (c : Call) → gapless (listOf (callOf c s .actions)) ≡ true
   -- they are at most four, so that a step leaves none of its row out
-  pub at-most-four : (cs : List Call) (f : OpenFrame) (e : Event) → stepOf f e (after cs) .answer ≡ Answer.Done → length (takes f e (after cs) .actions) ≤ 4
+  pub at-most-four : (s : State) → rules s ≡ true → (f : OpenFrame) (e : Event) → stepOf f e s .answer ≡ Answer.Done → length (takes f e s .actions) ≤ 4
   -- in XL6 the memory holds the latest AIP that came there since the OPEN was transmitted
   pub remembers-aip : (cs : List Call) → after cs .phase ≡ Phase.Xl6 → after cs .memory .aip ≡ aipMet (met cs ready [])
   -- while none came, an OPEN that is not of higher priority does nothing
@@ -111,8 +113,8 @@ links = record {
   counts = λ cs. let e = run-counts cs ready (omega arith) in omega (arith, e);
   frames-pass = λ cs c. run-shown cs [] ready new c;
   same-bytes = λ b f small e. written-read b f small e;
-  in-order = λ cs c. gapless-call (after cs) (kept cs ready ready-keeps) c;
-  at-most-four = λ cs f e d. few-done (after cs) (kept cs ready ready-keeps) f e d;
+  in-order = gapless-call;
+  at-most-four = few-done;
   remembers-aip = λ cs e. remembers cs e;
   stands = λ cs f g x never low. opens-in-6 (after cs) g (kept cs ready ready-keeps) (x .phase) (x .fields) ∙ ap done (unmoved (after cs) f g (x .transmitted) (remembers cs (x .phase) ∙ never) low);
   overtakes = λ cs f g x high. opens-in-6 (after cs) g (kept cs ready ready-keeps) (x .phase) (x .fields) ∙ ap done (moved (after cs) f g (x .transmitted) (or-right _ high));

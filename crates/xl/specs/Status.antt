@@ -7,7 +7,7 @@ use Rattle.xl_parts.specs.declared.Phase.{Phase}
 use Rattle.xl_parts.specs.declared.Wait.{Wait}
 use Rattle.xl_parts.specs.declared.Seen.{Seen}
 use Rattle.xl_parts.specs.declared.State.{State}
-use Rattle.xl.specs.declared.LinkStatus.{LinkStatus}
+use Rattle.xl_parts.specs.declared.LinkStatus.{LinkStatus}
 use Rattle.xl.specs.Rules.{rules}
 
 abbrev pub waiting : Seen → LinkStatus

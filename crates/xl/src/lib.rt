@@ -12,6 +12,7 @@ use refusals::Refusal;
 use xl_parts::Answer;
 use xl_parts::Event;
 use xl_parts::Held;
+use xl_parts::LinkStatus;
 use xl_parts::Memory;
 use xl_parts::Message;
 use xl_parts::Phase;
@@ -21,15 +22,6 @@ use xl_parts::State;
 use xl_parts::Stepped;
 use xl_parts::Wait;
 use xl_parts::stays;
-
-// What the connection manager is told of a link.
-pub enum LinkStatus {
-    Ready,
-    Connected,
-    BlockedPartial,
-    Partial,
-    Refused(Refusal),
-}
 
 fn is_fielded(h: Held) -> bool
     ensures { λ r. ⌜ r ≡ fielded h ⌝ }

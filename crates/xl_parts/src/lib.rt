@@ -206,6 +206,15 @@ pub struct Stepped {
     pub actions: Actions,
 }
 
+// What the connection manager is told of a link.
+pub enum LinkStatus {
+    Ready,
+    Connected,
+    BlockedPartial,
+    Partial,
+    Refused(Refusal),
+}
+
 fn forgotten() -> Memory
     ensures { λ r. ⌜ r ≡ nothing ⌝ }
 {
