@@ -106,7 +106,7 @@ rules-say : (s : State) → Says (rules s) (Rules s)
 unfolding rules
 rules-say s =
     means (both (fields (s .memory .held)) (both (fields (s .memory .heard)) (implies (working (s .phase)) (frame-held (s .memory .held)))))
-    (λ h. record { held = h .0; remembered = h .1 .0; holds = h .1 .1 }, λ r. (r .held, r .remembered, r .holds))
+    (λ h. record { held = h .0; remembered = h .1 .0; holds = h .1 .1 }, λ r. (r .held, (r .remembered, r .holds)))
 
 broken : (s : State) → (not (rules s) ≡ true) ↔ (Rules s → ⊥)
 broken s = unless (rules-say s)

@@ -117,10 +117,10 @@ links = record {
   at-most-four = few-done;
   remembers-aip = λ cs e. remembers cs e;
   stands = λ cs f g x never low. opens-in-6 (after cs) g (kept cs ready ready-keeps) (x .phase) (x .fields) ∙ ap done (unmoved (after cs) f g (x .transmitted) (remembers cs (x .phase) ∙ never) low);
-  overtakes = λ cs f g x high. opens-in-6 (after cs) g (kept cs ready ready-keeps) (x .phase) (x .fields) ∙ ap done (moved (after cs) f g (x .transmitted) (or-right _ high));
+  overtakes = λ cs f g x high. opens-in-6 (after cs) g (kept cs ready ready-keeps) (x .phase) (x .fields) ∙ ap done (moved (after cs) f g (x .transmitted) (or-right (isSeen (after cs .memory .aip)) high));
   yields = λ cs f g w x seen. opens-in-6 (after cs) g (kept cs ready ready-keeps) (x .phase) (x .fields) ∙ ap done (moved (after cs) f g (x .transmitted) (or-left _ (ap isSeen (remembers cs (x .phase) ∙ seen))));
   sends-on = λ cs e f g x low. sent-in-5 (after cs) e g (kept cs ready ready-keeps) (x .phase) (x .unbroken) (x .remembered) ∙ ap (λ (y : Effect). done (first (entry Phase.Xl6) y)) (unmoved (forgotten (after cs)) f g (x .transmitted) (none-in-5 cs (x .phase)) low);
-  sends-back = λ cs e f g x high. sent-in-5 (after cs) e g (kept cs ready ready-keeps) (x .phase) (x .unbroken) (x .remembered) ∙ ap (λ (y : Effect). done (first (entry Phase.Xl6) y)) (moved (forgotten (after cs)) f g (x .transmitted) (or-right _ high));
+  sends-back = λ cs e f g x high. sent-in-5 (after cs) e g (kept cs ready ready-keeps) (x .phase) (x .unbroken) (x .remembered) ∙ ap (λ (y : Effect). done (first (entry Phase.Xl6) y)) (moved (forgotten (after cs)) f g (x .transmitted) (or-right (isSeen (forgotten (after cs) .memory .aip)) high));
   path-left = λ s c. released-call s c;
   disables = λ s f e. disabled s e f;
 }
