@@ -28,14 +28,14 @@ use Rattle.xl_rows.proofs.Crossing.{unmoved, moved}
 use Rattle.xl.specs.Rules.{rules}
 use Rattle.xl.specs.Steps.{stepOf}
 use Rattle.xl.specs.Status.{statusOf}
-use Rattle.xl_calls.specs.Links.{Call, event, bytes, callOf, run, surprises, brought, frames, names, some, listOf, gapless, In}
+use Rattle.xl_calls.specs.Links.{Call, event, bytes, callOf, run, surprises, brought, frames, names, some, listOf, gapless, Shows, In}
 use Rattle.xl_calls.specs.Met.{met, aipMet}
 use Rattle.xl_parts.specs.Path.{releases}
 use Rattle.xl_calls.specs.Path.{leavesTo, oneOf}
 use Rattle.xl_calls.proofs.Walk.{Good}
 use Rattle.xl_calls.proofs.Kept.{kept, ready-keeps}
 use Rattle.xl_calls.proofs.Counts.{run-counts}
-use Rattle.xl_calls.proofs.Shown.{Shows, run-shown, gapless-call, few-done}
+use Rattle.xl_calls.proofs.Shown.{run-shown, gapless-call, few-done}
 use Rattle.xl_calls.proofs.Crossing.{disabled, opens-in-6, sent-in-5}
 use Rattle.xl_calls.proofs.Seen.{remembers, none-in-5}
 use Rattle.xl_calls.proofs.Released.{released-call}

@@ -19,16 +19,10 @@ use Rattle.xl_parts.specs.Parts.{Effect, packed, done}
 use Rattle.xl_rows.specs.Table.{takes}
 use Rattle.xl.specs.Rules.{isFrame, rules}
 use Rattle.xl.specs.Steps.{causes, refused, stepOf}
-use Rattle.xl_calls.specs.Links.{Call, callOf, run, brought, frames, names, isNone, some, listOf, gapless, Each, In, here, there}
+use Rattle.xl_calls.specs.Links.{Call, callOf, run, brought, frames, names, isNone, some, listOf, gapless, Each, Shows, In, here, there}
 use Rattle.xl_calls.proofs.Walk.{Good}
 use Rattle.xl_calls.proofs.Links.{Took, listed, other, took, Fielded, good-of, fields-given, by-call}
 use Rattle.xl_calls.proofs.Kept.{good-after}
-
--- a frame is held, and Q holds of it
-pub record Shows (Q : OpenFrame → Type 0) (h : Held) : Type 0 where
-  pub frame : OpenFrame
-  pub held : h ≡ Held.Frame frame
-  pub from : Q frame
 
 shows-of : (Q : OpenFrame → Type 0) (h : Held) → isFrame h ≡ true → Each Q h → Shows Q h
 shows-of Q Held.Nothing e q = impossible e

@@ -2,6 +2,7 @@
 use Prim.Native.Nat.{ℕ, _+_}
 use mathlib.Core.Bool.{Bool, true, false, not, cond, _||_}
 use mathlib.Core.List.{List, [], _∷_, _++_}
+use mathlib.Core.Path.{_≡_}
 use Rattle.open_frame.specs.Open.{readOpen}
 use Rattle.open_frame.specs.declared.OpenFrame.{OpenFrame}
 use Rattle.open_frame.specs.declared.OpenRead.{OpenRead}
@@ -109,6 +110,12 @@ gapless (a ∷ acts) = cond (isNone a) (not (some (λ b. not (isNone b)) acts)) 
 abbrev pub Each : (OpenFrame → Type 0) → Held → Type 0
 Each Q Held.Nothing = Unit {0}
 Each Q (Held.Frame g) = Q g
+
+-- a frame is held, and Q holds of it
+pub record Shows (Q : OpenFrame → Type 0) (h : Held) : Type 0 where
+  pub frame : OpenFrame
+  pub held : h ≡ Held.Frame frame
+  pub from : Q frame
 
 pub data In (f : OpenFrame) : List OpenFrame → Type 0 where
   here : {fs : List OpenFrame} → In f (f ∷ fs)
