@@ -9,7 +9,8 @@ use native.Mathlib.Omega.{arith}
 use borrow.Author.Tests.{not-false}
 use denote.Ref.{now}
 use Rattle.laws.proofs.Bools.{never, and-right, impossible}
-use Rattle.laws.proofs.Tests.{Says, both, implies, unless, means}
+use Rattle.laws.specs.Tests.{Says}
+use Rattle.laws.proofs.Tests.{both, implies, unless, means}
 use Rattle.refusals.specs.Causes.{Cause, Ground, _when_, refuse, First, Decides, nil, cons}
 use Rattle.refusals.specs.declared.Refusal.{Refusal}
 use Rattle.refusals.proofs.Causes.{Verdict, stopped, passes, verdict, NoneGiven, only, if-first, through, refuse-append}

@@ -7,7 +7,7 @@ use mathlib.Core.List.{List, _∷_}
 use mathlib.Core.Logic.{_↔_}
 use mathlib.Core.Path.{_≡_}
 use lib.ListN.{length}
-use Rattle.laws.proofs.Tests.{Says}
+use Rattle.laws.specs.Tests.{Says}
 use Rattle.refusals.specs.Causes.{First}
 use Rattle.refusals.specs.declared.Refusal.{Refusal}
 use Rattle.port_parts.specs.Parts.{isSet}

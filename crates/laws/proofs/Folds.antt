@@ -12,7 +12,7 @@ use native.Mathlib.Omega.{arith}
 use lib.ListN.{getD}
 use Rattle.laws.specs.Folds.{foldTo, foldFrom, allBelow}
 use Rattle.laws.proofs.Bools.{and-true}
-use Rattle.laws.proofs.Tests.{Says}
+use Rattle.laws.specs.Tests.{Says}
 use Rattle.laws.proofs.Bools as bools
 
 -- a number below n + 1 is n or below n

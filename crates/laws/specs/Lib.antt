@@ -2,3 +2,4 @@
 pub mod Order
 pub mod Sets
 pub mod Folds
+pub mod Tests

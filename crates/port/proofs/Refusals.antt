@@ -12,7 +12,8 @@ use lib.ListN.{length, getD, List·getD-eq-default}
 use borrow.Author.Tests.{leb-true, le-leb, eqb-true, eq-eqb, ltb-true, ltb-false}
 use Rattle.laws.specs.Folds.{foldTo}
 use Rattle.laws.proofs.Bools.{never}
-use Rattle.laws.proofs.Tests.{Says, less, equal, itself, both, either, unless, means}
+use Rattle.laws.specs.Tests.{Says}
+use Rattle.laws.proofs.Tests.{less, equal, itself, both, either, unless, means}
 use Rattle.laws.proofs.Folds.{fold-part}
 use Rattle.laws.proofs.Finds.{Found, none, at, found, Some, some}
 use Rattle.refusals.specs.Causes.{Cause, _when_, refuse, First, Decides, nil, cons}

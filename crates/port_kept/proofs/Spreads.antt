@@ -7,7 +7,8 @@ use mathlib.Core.Logic.{inl}
 use lib.Dec.{eqb}
 use borrow.Author.Tests.{eqb-true, eq-eqb}
 use Rattle.laws.proofs.Bools.{never, by-test}
-use Rattle.laws.proofs.Tests.{Says, equal, both, itself, unless}
+use Rattle.laws.specs.Tests.{Says}
+use Rattle.laws.proofs.Tests.{equal, both, itself, unless}
 use Rattle.open_frame.specs.declared.Head.{Head}
 use Rattle.port_parts.specs.Parts.{isFree, isSsp}
 use Rattle.port_parts.specs.declared.Request.{Request}

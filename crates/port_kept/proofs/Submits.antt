@@ -11,7 +11,8 @@ use lib.ListN.{length, getD}
 use Rattle.laws.specs.Folds.{foldTo}
 use Rattle.laws.proofs.Bools.{never}
 use Rattle.laws.proofs.Folds.{fold-part, at-or-below}
-use Rattle.laws.proofs.Tests.{Says, equal, both, unless, same-or-not}
+use Rattle.laws.specs.Tests.{Says}
+use Rattle.laws.proofs.Tests.{equal, both, unless, same-or-not}
 use Rattle.open_frame.specs.Open.{headListed}
 use Rattle.open_frame.specs.declared.Head.{Head}
 use Rattle.port_parts.specs.Parts.{none, blank, isFree, sameNexus}

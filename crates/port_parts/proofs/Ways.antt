@@ -11,7 +11,8 @@ use borrow.Author.Tests.{ltb-true, ltb-false, eqb-true, eq-eqb, not-true}
 use Rattle.laws.proofs.Bools.{and-left, and-right, and-true, clash}
 use Rattle.laws.proofs.Sets.{first-in, first-low, count-none}
 use Rattle.laws.specs.Sets.{firstOf, countOf}
-use Rattle.laws.proofs.Tests.{Says, most, equal, both, implies}
+use Rattle.laws.specs.Tests.{Says}
+use Rattle.laws.proofs.Tests.{most, equal, both, implies}
 use Rattle.port_parts.specs.Parts.{noPhy}
 use Rattle.port_parts.specs.Choice.{reaches, forSend, forOpen, forClose, some, by, noWay, wayOf, isReady}
 use Rattle.port_parts.specs.Qualifies.{Ready, Reaches, Qualifies, sends, opens, closes}

@@ -10,7 +10,8 @@ use lib.Dec.{eqb, leb, ltb}
 use lib.ListN.{getD}
 use borrow.Author.Tests.{eqb-true, eqb-false, lt-leb}
 use Rattle.laws.specs.Folds.{allBelow}
-use Rattle.laws.proofs.Tests.{Says, less, most, equal, itself, both, either, implies, failing, unless, means}
+use Rattle.laws.specs.Tests.{Says}
+use Rattle.laws.proofs.Tests.{less, most, equal, itself, both, either, implies, failing, unless, means}
 use Rattle.laws.proofs.Folds.{all-of, fold-all, fold-from-all}
 use Rattle.open_frame.specs.Open.{headListed}
 use Rattle.open_frame.specs.declared.Head.{Head}

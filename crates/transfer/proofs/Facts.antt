@@ -9,7 +9,8 @@ use Rattle.transfer.specs.Rules.{endOf, inRange, before, isNew, zeros, o
 use Rattle.transfer.specs.Grounds.{InRange}
 use Rattle.transfer.specs.declared.Transfer.{Transfer}
 use Rattle.transfer.specs.declared.Phase.{Phase}
-use Rattle.laws.proofs.Tests.{Says, less, most, equal, itself, denied, both, either, means}
+use Rattle.laws.specs.Tests.{Says}
+use Rattle.laws.proofs.Tests.{less, most, equal, itself, denied, both, either, means}
 
 pub in-range : (b n m r : ℕ) → Says (inRange b n m r) (InRange b n m r)
 in-range b n m r =

@@ -21,7 +21,8 @@ use Rattle.transfer.specs.declared.Transfer.{Transfer}
 use Rattle.transfer.specs.declared.Stepped.{Stepped}
 use Rattle.transfer.specs.declared.Answer.{Answer}
 use Rattle.transfer.specs.declared.Phase.{Phase}
-use Rattle.laws.proofs.Tests.{Says, most, equal, either, unless}
+use Rattle.laws.specs.Tests.{Says}
+use Rattle.laws.proofs.Tests.{most, equal, either, unless}
 use Rattle.refusals.proofs.Causes.{by-causes}
 use Rattle.transfer.proofs.Facts.{in-range}
 use Rattle.transfer.proofs.Calls.{work, drain-phase}
