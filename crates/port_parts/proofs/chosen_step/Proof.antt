@@ -1,3 +1,4 @@
+-- `earlier` compares what was found so far with what `picked` finds at this record, which is `chosenStep`. Assumes nothing.
 use mathlib.Core.Path.{ap, _∙_}
 use Rattle.port_parts.specs.Choice.{earlierOf}
 use borrow.Author.Needs.{needs}

@@ -1,3 +1,4 @@
+-- `earlier` branches on the very test of `earlierOf`, and returns what each of its arms gives. Assumes nothing.
 use Rattle.port_parts.proofs.earlier.Statement.{statement}
 use Rattle.port_parts.proofs.earlier.Tie as tie
 

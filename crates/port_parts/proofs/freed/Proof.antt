@@ -1,3 +1,4 @@
+-- Every field of `freed` is zero: its three stamps are `none` by the promise of `no_stamp`. Assumes nothing.
 use borrow.Author.Needs.{needs}
 use Rattle.port_parts.proofs.freed.Statement.{statement}
 use Rattle.port_parts.proofs.freed.Tie as tie

@@ -1,3 +1,4 @@
+-- A loss time of 16 bits fits 64 bits in microseconds too, so that `reached` is asked what `isLost` compares. Assumes nothing.
 use borrow.Author.Needs.{needs}
 use Rattle.port_parts.proofs.is_lost.Statement.{statement}
 use Rattle.port_parts.proofs.is_lost.Tie as tie

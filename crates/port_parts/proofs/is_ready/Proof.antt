@@ -1,3 +1,4 @@
+-- `reached` compares as `isReady` does for a retried request, and the other tests are the same. Assumes nothing.
 use borrow.Author.Needs.{needs}
 use Rattle.port_parts.proofs.is_ready.Statement.{statement}
 use Rattle.port_parts.proofs.is_ready.Tie as tie

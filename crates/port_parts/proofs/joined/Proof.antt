@@ -1,3 +1,4 @@
+-- A set below 128 fits a byte when it is doubled and a bit is added, and that bit is the phy's test by `one`. Assumes nothing.
 use borrow.Author.Needs.{needs}
 use Rattle.port_parts.proofs.joined.Statement.{statement}
 use Rattle.port_parts.proofs.joined.Tie as tie

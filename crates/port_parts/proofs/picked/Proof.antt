@@ -1,3 +1,4 @@
+-- A ready request has the way of `way_for`, its slot and its time, and another has none: the two arms of `pickOf`. Assumes nothing.
 use Rattle.port_parts.specs.Choice.{pickOf}
 use borrow.Author.Needs.{needs}
 use Rattle.port_parts.proofs.picked.Statement.{statement}

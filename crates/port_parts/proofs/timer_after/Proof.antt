@@ -1,3 +1,4 @@
+-- A stop comes before a start, and a running timer isn't started anew: each return is a case of `timerBy`. Assumes nothing.
 use borrow.Author.Needs.{needs}
 use Rattle.port_parts.proofs.timer_after.Statement.{statement}
 use Rattle.port_parts.proofs.timer_after.Tie as tie
