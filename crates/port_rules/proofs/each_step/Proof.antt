@@ -1,3 +1,4 @@
+-- What was kept so far is joined with `request_rule` of this record, which is `eachStep`. Assumes nothing.
 use borrow.Author.Needs.{needs}
 use Rattle.port_rules.proofs.each_step.Statement.{statement}
 use Rattle.port_rules.proofs.each_step.Tie as tie

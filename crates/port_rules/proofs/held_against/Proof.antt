@@ -1,3 +1,4 @@
+-- A record that is free or behind the list is held against none; of others `i` is below 32, and `i + 1` fits. Assumes nothing.
 use native.Mathlib.Omega.{arith}
 use lib.Dec.{leb}
 use borrow.Author.Tests.{leb-false}

@@ -1,3 +1,4 @@
+-- The slot's bound and the two implications are those of `namesRight`; `has_frame_out` is half of `mustName`. Assumes nothing.
 use borrow.Author.Needs.{needs}
 use Rattle.port_rules.proofs.names_right.Statement.{statement}
 use Rattle.port_rules.proofs.names_right.Tie as tie

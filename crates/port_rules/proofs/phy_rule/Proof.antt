@@ -1,3 +1,4 @@
+-- The four tests are those of `phyRule`, the third by the promise of `names_right`. Assumes nothing.
 use borrow.Author.Needs.{needs}
 use Rattle.port_rules.proofs.phy_rule.Statement.{statement}
 use Rattle.port_rules.proofs.phy_rule.Tie as tie

@@ -1,3 +1,4 @@
+-- `paired` is asked of every record, `present_rule` of one that isn't free: the two halves of `requestRule`. Assumes nothing.
 use Rattle.port_rules.specs.Rules.{requestRule}
 use borrow.Author.Needs.{needs}
 use Rattle.port_rules.proofs.request_rule.Statement.{statement}
