@@ -1,3 +1,4 @@
+-- The definition asks `isBlocked` for count, wait and first open, the function once: each branch has all three. Assumes nothing.
 use borrow.Author.Needs.{needs}
 use Rattle.port_core.proofs.again.Statement.{statement}
 use Rattle.port_core.proofs.again.Tie as tie

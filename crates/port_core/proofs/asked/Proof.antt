@@ -1,3 +1,4 @@
+-- The frame is read from the entry itself, and `no_loss` is the promise's `unchanged`. Assumes nothing.
 use borrow.Author.Needs.{needs}
 use Rattle.port_core.proofs.asked.Statement.{statement}
 use Rattle.port_core.proofs.asked.Tie as tie

@@ -1,3 +1,4 @@
+-- `bare` is the record of its definition: `nameless`, `freed` and `no_loss` give answer, entry and loss timer. Assumes nothing.
 use borrow.Author.Needs.{needs}
 use Rattle.port_core.proofs.bare.Statement.{statement}
 use Rattle.port_core.proofs.bare.Tie as tie

@@ -1,3 +1,4 @@
+-- The four tests stand in the order of `cancelCauses`, so that the first that holds is the one that refuses. Assumes nothing.
 use borrow.Author.Tests.{le-ltb, lt-ltb}
 use Rattle.port_core.proofs.cancel_checked.Statement.{statement}
 use Rattle.port_core.proofs.cancel_checked.Tie as tie

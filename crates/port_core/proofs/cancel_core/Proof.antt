@@ -1,3 +1,4 @@
+-- `cancel_checked` refuses by the causes of `cancelOf`; what it passes is left as `cancelled` says. Assumes nothing.
 use Rattle.port_rows.specs.Calls.{cancelCauses, cancelled}
 use Rattle.port_core.proofs.Checks.{settled}
 use Rattle.port_rows.specs.Calls.{cancelOf}

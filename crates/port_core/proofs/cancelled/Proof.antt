@@ -1,3 +1,4 @@
+-- A waiting request is `ended`, and `stopping` promises what the definition says of one in progress. Assumes nothing.
 use Rattle.port_rows.specs.Calls.{cancelled}
 use borrow.Author.Tests.{eq-eqb, ne-eqb}
 use borrow.Author.Needs.{needs}

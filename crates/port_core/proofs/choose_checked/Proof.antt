@@ -1,3 +1,4 @@
+-- First the rules, then the time, as in `chooseCauses`; past both there is no cause left. Assumes nothing.
 use borrow.Author.Tests.{le-ltb, lt-ltb}
 use Rattle.port_core.proofs.choose_checked.Statement.{statement}
 use Rattle.port_core.proofs.choose_checked.Tie as tie

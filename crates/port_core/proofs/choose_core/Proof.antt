@@ -1,3 +1,4 @@
+-- The check reads `chooseCauses`, so that it refuses where `chooseOf` does, and else `chosen` answers. Assumes nothing.
 use Rattle.port_rows.specs.Calls.{chooseCauses, chosen}
 use Rattle.port_core.proofs.Checks.{settled}
 use Rattle.port_rows.specs.Calls.{chooseOf}

@@ -1,3 +1,4 @@
+-- Steps 1, 2 and 3 have a function each, any other number is Nothing: the cases of the definition, in turn. Assumes nothing.
 use Rattle.port_rows.specs.Calls.{chosen}
 use borrow.Author.Tests.{eq-eqb, ne-eqb}
 use borrow.Author.Needs.{needs}

@@ -1,3 +1,4 @@
+-- `joined` is `isJoined` of the phy that `phy_at` gives: the check refuses, or `closed_done` answers. Assumes nothing.
 use mathlib.Core.Bool.{not}
 use Rattle.port_rows.specs.Calls.{closedDone, isJoined, phyAt, phyCauses}
 use Rattle.port_core.proofs.Checks.{settled}

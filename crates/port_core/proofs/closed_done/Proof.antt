@@ -1,3 +1,4 @@
+-- The phy becomes unconnected, `left_word` speaks of the request that it named, and `ended` sets that free. Assumes nothing.
 use borrow.Author.Needs.{needs}
 use Rattle.port_core.proofs.closed_done.Statement.{statement}
 use Rattle.port_core.proofs.closed_done.Tie as tie

@@ -1,3 +1,4 @@
+-- `staged` closes the phy and takes the slot from it, and `marked` notes that a phy was closed for the request. Assumes nothing.
 use borrow.Author.Needs.{needs}
 use Rattle.port_core.proofs.closing.Statement.{statement}
 use Rattle.port_core.proofs.closing.Tie as tie

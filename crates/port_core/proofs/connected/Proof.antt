@@ -1,3 +1,4 @@
+-- Whether it is cancelled picks stage and word, whether it is SSP the timer: the `cond`s of the definition. Assumes nothing.
 use borrow.Author.Needs.{needs}
 use Rattle.port_core.proofs.connected.Statement.{statement}
 use Rattle.port_core.proofs.connected.Tie as tie

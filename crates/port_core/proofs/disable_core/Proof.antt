@@ -1,3 +1,4 @@
+-- A phy that is disabled is unfit and refused; of any other `disabled_done` says what is left. Assumes nothing.
 use Rattle.port_parts.specs.Parts.{isDisabled}
 use Rattle.port_rows.specs.Calls.{disabledDone, phyAt, phyCauses}
 use Rattle.port_core.proofs.Checks.{settled}

@@ -1,3 +1,4 @@
+-- `left_word` and `left_entry` make the two choices of the definition, and `disabled` is the phy that it stores. Assumes nothing.
 use borrow.Author.Needs.{needs}
 use Rattle.port_core.proofs.disabled_done.Statement.{statement}
 use Rattle.port_core.proofs.disabled_done.Tie as tie

@@ -1,3 +1,4 @@
+-- `ended` is `told` with a record that is set free and a loss timer that doesn't change. Assumes nothing.
 use borrow.Author.Needs.{needs}
 use Rattle.port_core.proofs.ended.Statement.{statement}
 use Rattle.port_core.proofs.ended.Tie as tie

@@ -1,3 +1,4 @@
+-- Word and record both follow from whether it is cancelled, retried and lost, found as in the definition. Assumes nothing.
 use borrow.Author.Needs.{needs}
 use Rattle.port_core.proofs.failed.Statement.{statement}
 use Rattle.port_core.proofs.failed.Tie as tie

@@ -1,3 +1,4 @@
+-- An unlisted reason is the first of `failedCauses`, and `phy_checked` goes through those behind it. Assumes nothing.
 use mathlib.Core.Path.{_∙_}
 use borrow.Author.Needs.{needs}
 use Rattle.port_core.proofs.failed_checked.Statement.{statement}

@@ -1,3 +1,4 @@
+-- A request that goes on is left as `again` says, and the record of one that doesn't is freed. Assumes nothing.
 use borrow.Author.Needs.{needs}
 use Rattle.port_core.proofs.failed_entry.Statement.{statement}
 use Rattle.port_core.proofs.failed_entry.Tie as tie

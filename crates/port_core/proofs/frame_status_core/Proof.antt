@@ -1,3 +1,4 @@
+-- `has_frame_out` of the phy that `phy_at` gives says if it is unfit; a fit one is left as `framed` says. Assumes nothing.
 use mathlib.Core.Bool.{not}
 use Rattle.port_parts.specs.Parts.{hasFrameOut}
 use Rattle.port_rows.specs.Calls.{framed, phyAt, phyCauses}

@@ -1,3 +1,4 @@
+-- A phy that was sending is idle again, any other is closing; `ended` tells the status or Cancel Acknowledged. Assumes nothing.
 use borrow.Author.Needs.{needs}
 use Rattle.port_core.proofs.framed.Statement.{statement}
 use Rattle.port_core.proofs.framed.Tie as tie

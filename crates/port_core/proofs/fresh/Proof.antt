@@ -1,3 +1,4 @@
+-- Eight copies of what `disabled` gives are `replicate 8 off`, and the other fields are those of the definition. Assumes nothing.
 use borrow.Author.Needs.{needs}
 use Rattle.port_core.proofs.fresh.Statement.{statement}
 use Rattle.port_core.proofs.fresh.Tie as tie

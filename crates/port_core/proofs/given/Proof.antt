@@ -1,3 +1,4 @@
+-- The match has the two cases of the definition, and in the second `refused` promises `refusedBy`. Assumes nothing.
 use mathlib.Core.Path.{refl, _∙_}
 use borrow.Author.Needs.{needs}
 use Rattle.port_core.proofs.given.Statement.{statement}

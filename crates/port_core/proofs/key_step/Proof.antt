@@ -1,3 +1,4 @@
+-- `byte_if` takes this place only if none was found before and the record has the key: the `cond` of `keyStep`. Assumes nothing.
 use borrow.Author.Needs.{needs}
 use Rattle.port_core.proofs.key_step.Statement.{statement}
 use Rattle.port_core.proofs.key_step.Tie as tie

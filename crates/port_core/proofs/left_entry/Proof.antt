@@ -1,3 +1,4 @@
+-- A cancelled request's record is freed, another's is `placed` among those that wait: the two arms of the `cond`. Assumes nothing.
 use borrow.Author.Needs.{needs}
 use Rattle.port_core.proofs.left_entry.Statement.{statement}
 use Rattle.port_core.proofs.left_entry.Tie as tie

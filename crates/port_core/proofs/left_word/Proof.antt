@@ -1,3 +1,4 @@
+-- Whether it was cancelled is asked only of a phy that names a request, as the `cond`s of the promise nest. Assumes nothing.
 use Rattle.port_core.proofs.left_word.Statement.{statement}
 use Rattle.port_core.proofs.left_word.Tie as tie
 

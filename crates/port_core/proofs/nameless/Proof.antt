@@ -1,3 +1,4 @@
+-- Slot 32 and phy 8 are none, and the frame is `noFrame` by the promise of `no_frame`. Assumes nothing.
 use borrow.Author.Needs.{needs}
 use Rattle.port_core.proofs.nameless.Statement.{statement}
 use Rattle.port_core.proofs.nameless.Tie as tie

@@ -1,3 +1,4 @@
+-- A loss timer that doesn't change is a record of zeros, its stamp by the promise of `no_stamp`. Assumes nothing.
 use borrow.Author.Needs.{needs}
 use Rattle.port_core.proofs.no_loss.Statement.{statement}
 use Rattle.port_core.proofs.no_loss.Tie as tie

@@ -1,3 +1,4 @@
+-- Before the first record no slot, no key and no timer was found: `noRoom`, whose stamp is that of `no_stamp`. Assumes nothing.
 use borrow.Author.Needs.{needs}
 use Rattle.port_core.proofs.no_room.Statement.{statement}
 use Rattle.port_core.proofs.no_room.Tie as tie

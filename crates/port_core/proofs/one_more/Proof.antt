@@ -1,3 +1,4 @@
+-- Below 255 the sum is at most 255, so that `min` keeps it; from 255 on `min` gives 255. Assumes nothing.
 use mathlib.Core.Path.{_≡_}
 use Prim.Native.Nat.{_+_, min}
 use native.Mathlib.Omega.{arith}

@@ -1,3 +1,4 @@
+-- The check and `failed` are given the phy and reason of `openFailedOf`: the one refuses, or the other answers. Assumes nothing.
 use mathlib.Core.Bool.{not}
 use Rattle.port_parts.specs.Reasons.{reasonOf}
 use Rattle.port_parts.specs.Parts.{isOpening}

@@ -1,3 +1,4 @@
+-- Only an opening phy is fit, and of the one that `phy_at` gives `connected` says what is left. Assumes nothing.
 use mathlib.Core.Bool.{not}
 use Rattle.port_parts.specs.Parts.{isOpening}
 use Rattle.port_rows.specs.Calls.{connected, phyAt, phyCauses}

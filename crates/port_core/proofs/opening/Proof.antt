@@ -1,3 +1,4 @@
+-- The wait runs from the first open, which is now if there was none, and `asked` reads the frame from that entry. Assumes nothing.
 use borrow.Author.Needs.{needs}
 use Rattle.port_core.proofs.opening.Statement.{statement}
 use Rattle.port_core.proofs.opening.Tie as tie

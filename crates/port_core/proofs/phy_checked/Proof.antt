@@ -1,3 +1,4 @@
+-- At each return the tests before it have failed, and those are the causes that `phyCauses` lists before its own. Assumes nothing.
 use borrow.Author.Tests.{le-ltb, lt-ltb}
 use Rattle.port_core.proofs.phy_checked.Statement.{statement}
 use Rattle.port_core.proofs.phy_checked.Tie as tie

@@ -1,3 +1,4 @@
+-- Slot, key and timer have a test each; where it fails, `byte_if`, `|` and `stamp_if` keep what was found. Assumes nothing.
 use borrow.Author.Needs.{needs}
 use Rattle.port_core.proofs.room_step.Statement.{statement}
 use Rattle.port_core.proofs.room_step.Tie as tie

@@ -1,3 +1,4 @@
+-- `staged` puts the frame out, `placed` the request in progress on that phy, and no loss timer changes. Assumes nothing.
 use borrow.Author.Needs.{needs}
 use Rattle.port_core.proofs.sent.Statement.{statement}
 use Rattle.port_core.proofs.sent.Tie as tie

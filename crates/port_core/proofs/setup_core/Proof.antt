@@ -1,3 +1,4 @@
+-- Out of range `no_port` is left and refused, else a `fresh` port and a cleared list: the sides of `setupOf`. Assumes nothing.
 use Rattle.port_rows.specs.Calls.{setupOf}
 use borrow.Author.Needs.{needs}
 use Rattle.port_core.proofs.setup_core.Statement.{statement}

@@ -1,3 +1,4 @@
+-- Only a sending phy changes its stage, and only an opening one gets Stop Arb: the promise's two `cond`s. Assumes nothing.
 use borrow.Author.Needs.{needs}
 use Rattle.port_core.proofs.stopping.Statement.{statement}
 use Rattle.port_core.proofs.stopping.Tie as tie

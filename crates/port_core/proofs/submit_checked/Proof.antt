@@ -1,3 +1,4 @@
+-- Fields, rules, time, key and room are tested in this order, which is that of `submitCauses`. Assumes nothing.
 use borrow.Author.Tests.{le-leb, le-ltb, lt-leb, lt-ltb}
 use borrow.Author.Needs.{needs}
 use Rattle.port_core.proofs.submit_checked.Statement.{statement}

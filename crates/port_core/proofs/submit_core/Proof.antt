@@ -1,3 +1,4 @@
+-- `submit_checked` refuses as `submitOf` does; else the new record goes to the free slot that was found. Assumes nothing.
 use Rattle.port_rows.specs.Answers.{told, later, unchanged}
 use Rattle.port_rows.specs.declared.Word.the-variants.{Submitted}
 use Rattle.port_rows.specs.Calls.{submitCauses, submitted}

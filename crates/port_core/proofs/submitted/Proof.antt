@@ -1,3 +1,4 @@
+-- A new request waits with its head, time and destination's timer; its other stamps are `none` by `no_stamp`. Assumes nothing.
 use borrow.Author.Needs.{needs}
 use Rattle.port_core.proofs.submitted.Statement.{statement}
 use Rattle.port_core.proofs.submitted.Tie as tie

@@ -1,3 +1,4 @@
+-- What the reason stops and starts is done to the timer of an SSP request only, as `timerAfter` says. Assumes nothing.
 use borrow.Author.Needs.{needs}
 use Rattle.port_core.proofs.timer_after.Statement.{statement}
 use Rattle.port_core.proofs.timer_after.Tie as tie

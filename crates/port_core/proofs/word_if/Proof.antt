@@ -1,3 +1,4 @@
+-- Each arm of the `if` is what `cond` gives for its test. Assumes nothing.
 use Rattle.port_core.proofs.word_if.Statement.{statement}
 use Rattle.port_core.proofs.word_if.Tie as tie
 
