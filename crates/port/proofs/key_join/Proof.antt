@@ -1,3 +1,4 @@
+-- `request_rule` tests this record, `key_step` asks whether it has the key: the two fields of `keyJoin`. Assumes nothing.
 use borrow.Author.Needs.{needs}
 use Rattle.port.proofs.key_join.Statement.{statement}
 use Rattle.port.proofs.key_join.Tie as tie
@@ -6,15 +7,12 @@ use Rattle.port.proofs.key_join.Lts as lts
 use Rattle.port_core.proofs.key_step.Reads as key-step-reads
 use Rattle.port_rules.proofs.request_rule.Reads as request-rule-reads
 
--- src/lib.rt:165:26
 request-rule-requires : tie.Need-request-rule-requires
 request-rule-requires c κs = search needs
 
--- src/lib.rt:166:9
 key-step-requires : tie.Need-key-step-requires
 key-step-requires c κs = search needs
 
--- src/lib.rt:161:1
 returns : tie.Need-returns
 returns c = rw (c .key-step .ensures, c .before .before .request-rule .ensures)
 

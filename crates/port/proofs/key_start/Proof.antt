@@ -1,3 +1,4 @@
+-- Before the first record only the port's own rules were tested, and no slot has the key. Assumes nothing.
 use borrow.Author.Needs.{needs}
 use Rattle.port.proofs.key_start.Statement.{statement}
 use Rattle.port.proofs.key_start.Tie as tie
@@ -5,11 +6,9 @@ use Rattle.port.proofs.key_start.Reads as reads
 use Rattle.port.proofs.key_start.Lts as lts
 use Rattle.port_rules.proofs.port_rule.Reads as port-rule-reads
 
--- src/lib.rt:157:9
 port-rule-requires : tie.Need-port-rule-requires
 port-rule-requires c κs = search needs
 
--- src/lib.rt:153:1
 returns : tie.Need-returns
 returns c = rw (c .port-rule .ensures)
 

@@ -1,3 +1,4 @@
+-- The phy has named its slot already; this record adds only `request_rule` to what is kept. Assumes nothing.
 use borrow.Author.Needs.{needs}
 use Rattle.port.proofs.phy_join.Statement.{statement}
 use Rattle.port.proofs.phy_join.Tie as tie
@@ -5,11 +6,9 @@ use Rattle.port.proofs.phy_join.Reads as reads
 use Rattle.port.proofs.phy_join.Lts as lts
 use Rattle.port_rules.proofs.request_rule.Reads as request-rule-reads
 
--- src/lib.rt:104:25
 request-rule-requires : tie.Need-request-rule-requires
 request-rule-requires c κs = search needs
 
--- src/lib.rt:99:1
 returns : tie.Need-returns
 returns c = rw (c .before .request-rule .ensures)
 

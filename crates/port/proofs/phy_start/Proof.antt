@@ -1,3 +1,4 @@
+-- The slot is that of the phy which `phy_at` gives, and `port_rule` tests what the port keeps by itself. Assumes nothing.
 use borrow.Author.Needs.{needs}
 use Rattle.port.proofs.phy_start.Statement.{statement}
 use Rattle.port.proofs.phy_start.Tie as tie
@@ -6,15 +7,12 @@ use Rattle.port.proofs.phy_start.Lts as lts
 use Rattle.port_core.proofs.phy_at.Reads as phy-at-reads
 use Rattle.port_rules.proofs.port_rule.Reads as port-rule-reads
 
--- src/lib.rt:92:9
 phy-at-requires : tie.Need-phy-at-requires
 phy-at-requires c κs = search needs
 
--- src/lib.rt:94:15
 port-rule-requires : tie.Need-port-rule-requires
 port-rule-requires c κs = search needs
 
--- src/lib.rt:88:1
 returns : tie.Need-returns
 returns c = rw (c .port-rule .ensures, c .before .phy-at .ensures)
 

@@ -1,3 +1,4 @@
+-- `room_step` looks for room at this record while `request_rule` tests it, each for its own field of `roomJoin`. Assumes nothing.
 use borrow.Author.Needs.{needs}
 use Rattle.port.proofs.room_join.Statement.{statement}
 use Rattle.port.proofs.room_join.Tie as tie
@@ -6,15 +7,12 @@ use Rattle.port.proofs.room_join.Lts as lts
 use Rattle.port_core.proofs.room_step.Reads as room-step-reads
 use Rattle.port_rules.proofs.request_rule.Reads as request-rule-reads
 
--- src/lib.rt:148:26
 request-rule-requires : tie.Need-request-rule-requires
 request-rule-requires c κs = search needs
 
--- src/lib.rt:149:9
 room-step-requires : tie.Need-room-step-requires
 room-step-requires c κs = search needs
 
--- src/lib.rt:144:1
 returns : tie.Need-returns
 returns c = rw (c .room-step .ensures, c .before .before .request-rule .ensures)
 

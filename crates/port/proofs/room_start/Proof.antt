@@ -1,3 +1,4 @@
+-- `port_rule` and `no_room` promise the two fields of `roomStart`. Assumes nothing.
 use borrow.Author.Needs.{needs}
 use Rattle.port.proofs.room_start.Statement.{statement}
 use Rattle.port.proofs.room_start.Tie as tie
@@ -6,15 +7,12 @@ use Rattle.port.proofs.room_start.Lts as lts
 use Rattle.port_core.proofs.no_room.Reads as no-room-reads
 use Rattle.port_rules.proofs.port_rule.Reads as port-rule-reads
 
--- src/lib.rt:139:9
 port-rule-requires : tie.Need-port-rule-requires
 port-rule-requires c κs = search needs
 
--- src/lib.rt:140:9
 no-room-requires : tie.Need-no-room-requires
 no-room-requires c κs = search needs
 
--- src/lib.rt:135:1
 returns : tie.Need-returns
 returns c = rw (c .no-room .ensures, c .before .port-rule .ensures)
 

@@ -1,3 +1,4 @@
+-- The head and the timer of an empty record are all zeros, as in `setupAsk`. Assumes nothing.
 use borrow.Author.Needs.{needs}
 use Rattle.port.proofs.setup_ask.Statement.{statement}
 use Rattle.port.proofs.setup_ask.Tie as tie
@@ -5,11 +6,9 @@ use Rattle.port.proofs.setup_ask.Reads as reads
 use Rattle.port.proofs.setup_ask.Lts as lts
 use Rattle.port.proofs.empty.Reads as empty-reads
 
--- src/lib.rt:338:9
 empty-requires : tie.Need-empty-requires
 empty-requires c κs = search needs
 
--- src/lib.rt:335:1
 returns : tie.Need-returns
 returns c = rw (c .before .before .empty .ensures)
 

@@ -1,3 +1,4 @@
+-- `answered` takes answer and port from what `refused` leaves, and that is `refusedBy` for the list's length. Assumes nothing.
 use borrow.Author.Needs.{needs}
 use Rattle.port.proofs.short.Statement.{statement}
 use Rattle.port.proofs.short.Tie as tie
@@ -6,15 +7,12 @@ use Rattle.port.proofs.short.Lts as lts
 use Rattle.port.proofs.answered.Reads as answered-reads
 use Rattle.port_core.proofs.refused.Reads as refused-reads
 
--- src/lib.rt:326:14
 refused-requires : tie.Need-refused-requires
 refused-requires c κs = search needs
 
--- src/lib.rt:326:5
 answered-requires : tie.Need-answered-requires
 answered-requires c κs = search needs
 
--- src/lib.rt:323:1
 returns : tie.Need-returns
 returns c = rw (c .answered .ensures, c .before .refused .ensures)
 

@@ -1,3 +1,4 @@
+-- There is no port yet, so that what is refused as `short` is `no_port`. Assumes nothing.
 use borrow.Author.Needs.{needs}
 use Rattle.port.proofs.short_setup.Statement.{statement}
 use Rattle.port.proofs.short_setup.Tie as tie
@@ -6,15 +7,12 @@ use Rattle.port.proofs.short_setup.Lts as lts
 use Rattle.port.proofs.short.Reads as short-reads
 use Rattle.port_core.proofs.no_port.Reads as no-port-reads
 
--- src/lib.rt:332:11
 no-port-requires : tie.Need-no-port-requires
 no-port-requires c κs = search needs
 
--- src/lib.rt:332:5
 short-requires : tie.Need-short-requires
 short-requires c κs = search needs
 
--- src/lib.rt:329:1
 returns : tie.Need-returns
 returns c = rw (c .short .ensures, c .before .no-port .ensures)
 

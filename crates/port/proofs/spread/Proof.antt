@@ -1,3 +1,4 @@
+-- The branch is on the definition's test: a request that meets it is `timed`, another stays as it is. Assumes nothing.
 use borrow.Author.Needs.{needs}
 use Rattle.port.proofs.spread.Statement.{statement}
 use Rattle.port.proofs.spread.Tie as tie
@@ -5,15 +6,12 @@ use Rattle.port.proofs.spread.Reads as reads
 use Rattle.port.proofs.spread.Lts as lts
 use Rattle.port_core.proofs.timed.Reads as timed-reads
 
--- src/lib.rt:139:9
 timed-requires : tie.Need-timed-requires
 timed-requires c κs = search needs
 
--- src/lib.rt:139:9
 returns : tie.Need-returns
 returns c = rw (c .timed .ensures, c .before .if1 .taken)
 
--- src/lib.rt:134:1
 returns-2 : tie.Need-returns-2
 returns-2 c = rw (c .if1 .left)
 
