@@ -101,14 +101,6 @@ use Rattle.port_parts.proofs.disabled.Kinds as port-disabled-of
 use Rattle.port_parts.proofs.disabled.Reads as port-disabled
 use Rattle.port_parts.proofs.freed.Kinds as port-freed-of
 use Rattle.port_parts.proofs.freed.Reads as port-freed
-use Rattle.port_parts.proofs.is_free.Kinds as port-is-free-of
-use Rattle.port_parts.proofs.is_free.Reads as port-is-free
-use Rattle.port_parts.proofs.is_waiting.Kinds as port-is-waiting-of
-use Rattle.port_parts.proofs.is_waiting.Reads as port-is-waiting
-use Rattle.port_parts.proofs.is_in_progress.Kinds as port-is-in-progress-of
-use Rattle.port_parts.proofs.is_in_progress.Reads as port-is-in-progress
-use Rattle.port_parts.proofs.is_ssp.Kinds as port-is-ssp-of
-use Rattle.port_parts.proofs.is_ssp.Reads as port-is-ssp
 use Rattle.port_parts.proofs.slot.Kinds as port-slot-of
 use Rattle.port_parts.proofs.slot.Reads as port-slot
 use Rattle.port_parts.proofs.reached.Kinds as port-reached-of
@@ -153,8 +145,6 @@ use Rattle.port_rules.proofs.port_rule.Kinds as port-port-rule-of
 use Rattle.port_rules.proofs.port_rule.Reads as port-port-rule
 use Rattle.port_rules.proofs.request_rule.Kinds as port-request-rule-of
 use Rattle.port_rules.proofs.request_rule.Reads as port-request-rule
-use Rattle.port_rules.proofs.each_step.Kinds as port-each-step-of
-use Rattle.port_rules.proofs.each_step.Reads as port-each-step
 use Rattle.port_rules.proofs.held_against.Kinds as port-held-against-of
 use Rattle.port_rules.proofs.held_against.Reads as port-held-against
 use Rattle.port_rules.proofs.apart_step.Kinds as port-apart-step-of
@@ -286,10 +276,6 @@ pub record Total : Type 2 where
   pub port-stamped : Anything 0 port-stamped-of.ps port-stamped.Pre
   pub port-disabled : Anything 0 port-disabled-of.ps port-disabled.Pre
   pub port-freed : Anything 0 port-freed-of.ps port-freed.Pre
-  pub port-is-free : Anything 0 port-is-free-of.ps port-is-free.Pre
-  pub port-is-waiting : Anything 0 port-is-waiting-of.ps port-is-waiting.Pre
-  pub port-is-in-progress : Anything 0 port-is-in-progress-of.ps port-is-in-progress.Pre
-  pub port-is-ssp : Anything 0 port-is-ssp-of.ps port-is-ssp.Pre
   pub port-slot : Anything 0 port-slot-of.ps port-slot.Pre
   pub port-reached : Anything 0 port-reached-of.ps port-reached.Pre
   pub port-reaches : Anything 0 port-reaches-of.ps port-reaches.Pre
@@ -312,7 +298,6 @@ pub record Total : Type 2 where
   pub port-has-frame-out : Anything 0 port-has-frame-out-of.ps port-has-frame-out.Pre
   pub port-port-rule : Anything 0 port-port-rule-of.ps port-port-rule.Pre
   pub port-request-rule : Anything 0 port-request-rule-of.ps port-request-rule.Pre
-  pub port-each-step : Anything 0 port-each-step-of.ps port-each-step.Pre
   pub port-held-against : Anything 0 port-held-against-of.ps port-held-against.Pre
   pub port-apart-step : Anything 0 port-apart-step-of.ps port-apart-step.Pre
   pub port-refused : Anything 0 port-refused-of.ps port-refused.Pre
@@ -412,10 +397,6 @@ total = record {
   port-stamped = λ κs a. tt;
   port-disabled = λ κs a. tt;
   port-freed = λ κs a. tt;
-  port-is-free = λ κs a. tt;
-  port-is-waiting = λ κs a. tt;
-  port-is-in-progress = λ κs a. tt;
-  port-is-ssp = λ κs a. tt;
   port-slot = λ κs a. tt;
   port-reached = λ κs a. tt;
   port-reaches = λ κs a. tt;
@@ -438,7 +419,6 @@ total = record {
   port-has-frame-out = λ κs a. tt;
   port-port-rule = λ κs a. tt;
   port-request-rule = λ κs a. tt;
-  port-each-step = λ κs a. tt;
   port-held-against = λ κs a. tt;
   port-apart-step = λ κs a. tt;
   port-refused = λ κs a. tt;

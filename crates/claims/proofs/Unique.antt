@@ -107,14 +107,6 @@ use Rattle.port_parts.proofs.disabled.Kinds as port-disabled-of
 use Rattle.port_parts.proofs.disabled.Reads as port-disabled
 use Rattle.port_parts.proofs.freed.Kinds as port-freed-of
 use Rattle.port_parts.proofs.freed.Reads as port-freed
-use Rattle.port_parts.proofs.is_free.Kinds as port-is-free-of
-use Rattle.port_parts.proofs.is_free.Reads as port-is-free
-use Rattle.port_parts.proofs.is_waiting.Kinds as port-is-waiting-of
-use Rattle.port_parts.proofs.is_waiting.Reads as port-is-waiting
-use Rattle.port_parts.proofs.is_in_progress.Kinds as port-is-in-progress-of
-use Rattle.port_parts.proofs.is_in_progress.Reads as port-is-in-progress
-use Rattle.port_parts.proofs.is_ssp.Kinds as port-is-ssp-of
-use Rattle.port_parts.proofs.is_ssp.Reads as port-is-ssp
 use Rattle.port_parts.proofs.slot.Kinds as port-slot-of
 use Rattle.port_parts.proofs.slot.Reads as port-slot
 use Rattle.port_parts.proofs.reached.Kinds as port-reached-of
@@ -159,8 +151,6 @@ use Rattle.port_rules.proofs.port_rule.Kinds as port-port-rule-of
 use Rattle.port_rules.proofs.port_rule.Reads as port-port-rule
 use Rattle.port_rules.proofs.request_rule.Kinds as port-request-rule-of
 use Rattle.port_rules.proofs.request_rule.Reads as port-request-rule
-use Rattle.port_rules.proofs.each_step.Kinds as port-each-step-of
-use Rattle.port_rules.proofs.each_step.Reads as port-each-step
 use Rattle.port_rules.proofs.held_against.Kinds as port-held-against-of
 use Rattle.port_rules.proofs.held_against.Reads as port-held-against
 use Rattle.port_rules.proofs.apart_step.Kinds as port-apart-step-of
@@ -346,10 +336,6 @@ pub record Unique : Type 2 where
   pub port-stamped : One 0 port-stamped-of.ps port-stamped-of.r (none 0 port-stamped-of.ps port-stamped-of.r) port-stamped.Post
   pub port-disabled : One 0 port-disabled-of.ps port-disabled-of.r (none 0 port-disabled-of.ps port-disabled-of.r) port-disabled.Post
   pub port-freed : One 0 port-freed-of.ps port-freed-of.r (none 0 port-freed-of.ps port-freed-of.r) port-freed.Post
-  pub port-is-free : One 0 port-is-free-of.ps port-is-free-of.r (none 0 port-is-free-of.ps port-is-free-of.r) port-is-free.Post
-  pub port-is-waiting : One 0 port-is-waiting-of.ps port-is-waiting-of.r (none 0 port-is-waiting-of.ps port-is-waiting-of.r) port-is-waiting.Post
-  pub port-is-in-progress : One 0 port-is-in-progress-of.ps port-is-in-progress-of.r (none 0 port-is-in-progress-of.ps port-is-in-progress-of.r) port-is-in-progress.Post
-  pub port-is-ssp : One 0 port-is-ssp-of.ps port-is-ssp-of.r (none 0 port-is-ssp-of.ps port-is-ssp-of.r) port-is-ssp.Post
   pub port-slot : One 0 port-slot-of.ps port-slot-of.r (none 0 port-slot-of.ps port-slot-of.r) port-slot.Post
   pub port-reached : One 0 port-reached-of.ps port-reached-of.r (none 0 port-reached-of.ps port-reached-of.r) port-reached.Post
   pub port-reaches : One 0 port-reaches-of.ps port-reaches-of.r (none 0 port-reaches-of.ps port-reaches-of.r) port-reaches.Post
@@ -372,7 +358,6 @@ pub record Unique : Type 2 where
   pub port-has-frame-out : One 0 port-has-frame-out-of.ps port-has-frame-out-of.r (none 0 port-has-frame-out-of.ps port-has-frame-out-of.r) port-has-frame-out.Post
   pub port-port-rule : One 0 port-port-rule-of.ps port-port-rule-of.r (none 0 port-port-rule-of.ps port-port-rule-of.r) port-port-rule.Post
   pub port-request-rule : One 0 port-request-rule-of.ps port-request-rule-of.r (none 0 port-request-rule-of.ps port-request-rule-of.r) port-request-rule.Post
-  pub port-each-step : One 0 port-each-step-of.ps port-each-step-of.r (none 0 port-each-step-of.ps port-each-step-of.r) port-each-step.Post
   pub port-held-against : One 0 port-held-against-of.ps port-held-against-of.r (none 0 port-held-against-of.ps port-held-against-of.r) port-held-against.Post
   pub port-apart-step : One 0 port-apart-step-of.ps port-apart-step-of.r (none 0 port-apart-step-of.ps port-apart-step-of.r) port-apart-step.Post
   pub port-refused : One 0 port-refused-of.ps port-refused-of.r (none 0 port-refused-of.ps port-refused-of.r) port-refused.Post
@@ -472,10 +457,6 @@ unique = record {
   port-stamped = λ κs a x y s t p q. (p ∙ sym q, refl);
   port-disabled = λ κs a x y s t p q. (p ∙ sym q, refl);
   port-freed = λ κs a x y s t p q. (p ∙ sym q, refl);
-  port-is-free = λ κs a x y s t p q. (p ∙ sym q, refl);
-  port-is-waiting = λ κs a x y s t p q. (p ∙ sym q, refl);
-  port-is-in-progress = λ κs a x y s t p q. (p ∙ sym q, refl);
-  port-is-ssp = λ κs a x y s t p q. (p ∙ sym q, refl);
   port-slot = λ κs a x y s t p q. (p ∙ sym q, refl);
   port-reached = λ κs a x y s t p q. (p ∙ sym q, refl);
   port-reaches = λ κs a x y s t p q. (p ∙ sym q, refl);
@@ -498,7 +479,6 @@ unique = record {
   port-has-frame-out = λ κs a x y s t p q. (p ∙ sym q, refl);
   port-port-rule = λ κs a x y s t p q. (p ∙ sym q, refl);
   port-request-rule = λ κs a x y s t p q. (p ∙ sym q, refl);
-  port-each-step = λ κs a x y s t p q. (p ∙ sym q, refl);
   port-held-against = λ κs a x y s t p q. (p ∙ sym q, refl);
   port-apart-step = λ κs a x y s t p q. (p ∙ sym q, refl);
   port-refused = λ κs a x y s t p q. (p ∙ sym q, refl);

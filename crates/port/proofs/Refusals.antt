@@ -35,7 +35,7 @@ use Rattle.port_rules.specs.Kept.{Kept, Free, SameKey}
 use Rattle.port_rules.proofs.Facts.{range-says, rules-say}
 use Rattle.port_rows.specs.Finds.{noRoom, roomStep, roomOf, hasKey, keyOf}
 use Rattle.port_rows.specs.Calls.{phyAt, isJoined, isCancelled, closedPhy, marked, sent, opening, closing, idle, failedWord, timerAfter, bare, submitted, cancelled, chosen, connected, failed, framed, closedDone, disabledDone, submitCauses, cancelCauses, chooseCauses, phyCauses, failedCauses, setupOf, submitOf, cancelOf, chooseOf, openedOf, openFailedOf, frameStatusOf, closedOf, enableOf, disableOf}
-use Rattle.port_rows.specs.Answers.{told, later, withPhy, fresh, idlePhy, unchanged, refusedBy}
+use Rattle.port_rows.specs.Answers.{told, later, withPhy, fresh, unconnectedPhy, unchanged, refusedBy}
 use Rattle.port_rows.specs.declared.Done.{Done}
 use Rattle.port_rows.specs.declared.Word.{Word}
 use Rattle.port_rows.specs.declared.Word.the-variants.{Taken, Submitted, Send, Close, StopArb, Retried, Waiting, CancelAcknowledged, Ended, NexusLoss, ConnectionLost, Status, Refused}
@@ -191,7 +191,7 @@ takenOf (opened x) s = connected (s .port) (phyAt (s .port) (x .phy)) (onPhy (s 
 takenOf (openFailed x) s = failed (s .port) (phyAt (s .port) (x .phy)) (onPhy (s .list) (s .port) (x .phy)) (reasonOf (x .why)) (x .phy) (x .now)
 takenOf (frameStatus x) s = framed (s .port) (phyAt (s .port) (x .phy)) (onPhy (s .list) (s .port) (x .phy)) x
 takenOf (closed x) s = closedDone (s .port) (phyAt (s .port) (x .phy)) (onPhy (s .list) (s .port) (x .phy)) x
-takenOf (enable x) s = told (withPhy (s .port) (x .phy) idlePhy (x .now)) Taken 32 (x .phy) (onPhy (s .list) (s .port) (x .phy)) blank unchanged
+takenOf (enable x) s = told (withPhy (s .port) (x .phy) unconnectedPhy (x .now)) Taken 32 (x .phy) (onPhy (s .list) (s .port) (x .phy)) blank unchanged
 takenOf (disable x) s = disabledDone (s .port) (phyAt (s .port) (x .phy)) (onPhy (s .list) (s .port) (x .phy)) x
 
 abbrev goesOn : Call → State → Word

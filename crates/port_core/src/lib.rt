@@ -6,7 +6,7 @@ ghost use Prim.Native.Nat.{_-_};
 ghost use lib.ListN.{length};
 ghost use Rattle.refusals.specs.Causes.{refuse};
 ghost use Rattle.port_parts.specs.Parts.{blank, isOpening};
-ghost use Rattle.port_rows.specs.Answers.{noFrame, naming, nameless, later, withPhy, fresh, noPort, idlePhy, stagedPhy, joinedPhy, unchanged, lossBy, told, refusedBy};
+ghost use Rattle.port_rows.specs.Answers.{noFrame, naming, nameless, later, withPhy, fresh, noPort, unconnectedPhy, stagedPhy, joinedPhy, unchanged, lossBy, told, refusedBy};
 ghost use Rattle.port_rows.specs.Finds.{noRoom, roomStep, keyStep};
 ghost use Rattle.port_rows.specs.Calls.{phyAt, closedPhy, placed, marked, waited, timed, submitted, submitCauses, cancelCauses, chooseCauses, phyCauses, setupOf, submitOf, cancelOf, chooseOf, openedOf, openFailedOf, frameStatusOf, closedOf, enableOf, disableOf};
 ghost use Rattle.port_rows.specs.Calls as calls;
@@ -687,7 +687,7 @@ fn failed_entry(goes_on: bool, r: Request, why: Reason, now: u64, t: Stamp) -> R
 fn failed(p: Port, f: Phy, r: Request, why: Reason, k: u8, now: u64) -> Done
     ensures { λ d. ⌜ d ≡ calls.failed p f r why k now ⌝ }
 {
-    let q = with_phy(p, k, idle_phy(), now);
+    let q = with_phy(p, k, unconnected_phy(), now);
     let t = timer_after(r, why, now);
     let gone = r.cancelled == 1;
     let retried = port_parts::is_retried(why);
@@ -699,8 +699,8 @@ fn failed(p: Port, f: Phy, r: Request, why: Reason, k: u8, now: u64) -> Done
 }
 
 // An unconnected phy.
-fn idle_phy() -> Phy
-    ensures { λ f. ⌜ f ≡ idlePhy ⌝ }
+fn unconnected_phy() -> Phy
+    ensures { λ f. ⌜ f ≡ unconnectedPhy ⌝ }
 {
     Phy {
         stage: 1,
@@ -770,7 +770,7 @@ fn left_word(names: bool, gone: bool, word: Word) -> Word
 fn closed_done(p: Port, f: Phy, r: Request, x: Confirmed) -> Done
     ensures { λ d. ⌜ d ≡ calls.closedDone p f r x ⌝ }
 {
-    let q = with_phy(p, x.phy, idle_phy(), x.now);
+    let q = with_phy(p, x.phy, unconnected_phy(), x.now);
     let word = left_word(f.slot < 32, r.cancelled == 1, Word::ConnectionLost);
     ended(q, word, f.slot, x.phy, r)
 }
@@ -790,7 +790,7 @@ pub fn enable_core(p: Port, r: Request, kept: bool, x: Confirmed) -> Done
 {
     let f = phy_at(p, x.phy);
     let c = phy_checked(p, kept, x.phy, x.now, !(f.stage == 0));
-    let q = with_phy(p, x.phy, idle_phy(), x.now);
+    let q = with_phy(p, x.phy, unconnected_phy(), x.now);
     let d = ended(q, Word::Taken, 32, x.phy, r);
     given(c, p, d)
 }

@@ -19,7 +19,7 @@ use Rattle.port_parts.specs.declared.Reason.{Reason}
 use Rattle.port_parts.specs.declared.Request.{Request}
 use Rattle.port_parts.specs.declared.Stamp.{Stamp}
 use Rattle.port_rules.specs.Kept.{MustName, PhyKept, Free, Present, Kept}
-use Rattle.port_rows.specs.Answers.{idlePhy, joinedPhy, lossBy}
+use Rattle.port_rows.specs.Answers.{unconnectedPhy, joinedPhy, lossBy}
 use Rattle.port_rows.specs.Calls.{timed, phyAt, isCancelled, connected, again, timerAfter, isAgain, failed}
 use Rattle.port_rows.specs.declared.Done.{Done}
 use Rattle.port.specs.Calls.{leftOf, onPhy}
@@ -27,7 +27,7 @@ use Rattle.port_kept.proofs.Changes.{Entered, changed}
 use Rattle.port_kept.proofs.Enters.{free-enters, timed-enters}
 use Rattle.port_kept.proofs.Holds.{Dated, dated-none, dated-now, old-first, old-loss, present-as, present-timed, busy-kept, in-port, phy-kept, on-it, its-present}
 use Rattle.port_kept.proofs.Links.{stay}
-use Rattle.port_kept.proofs.Parted.{parted, idle-kept}
+use Rattle.port_kept.proofs.Parted.{parted, unconnected-kept}
 use Rattle.port_kept.proofs.Spreads.{Follows}
 
 -- a timer that may stand in the record r from `now` on
@@ -80,7 +80,7 @@ module _ (p : Port) (l : List Request) (size : length l ≡ 32) (eight : length 
 
   pub failed-keeps : (why : Reason) → Kept (failed p f r why k now .port) (leftOf l (failed p f r why k now))
   failed-keeps why =
-      parted p l size eight was k now low on idlePhy (idle-kept p l size eight was k now low on) (λ h. omega arith) (failed p f r why k now .answer) refl (cond (isAgain p r why now) (again r why now t) blank)
+      parted p l size eight was k now low on unconnectedPhy (unconnected-kept p l size eight was k now low on) (λ h. omega arith) (failed p f r why k now .answer) refl (cond (isAgain p r why now) (again r why now t) blank)
       (by-test (λ (e : Request). e .stage ≡ 2 → ⊥) (isAgain p r why now) (λ s e. omega arith) (λ s e. omega arith)) (lossBy r t) (λ e. fits .dated)
       (λ h. by-test (λ (e : Request). Entered p l (f .slot) e (lossBy r t) now) (isAgain p r why now) (λ s. retried (not-true (isCancelled r) (and-left (not (isCancelled r)) _ s))) (λ s. free-enters p l (f .slot) (lossBy r t) now))
       (failed p f r why k now .port)

@@ -14,7 +14,7 @@ use Rattle.port_parts.specs.declared.Phy.{Phy}
 use Rattle.port_parts.specs.declared.Port.{Port}
 use Rattle.port_parts.specs.declared.Request.{Request}
 use Rattle.port_rules.specs.Kept.{PhyKept, Present, Kept}
-use Rattle.port_rows.specs.Answers.{withPhy, idlePhy, stagedPhy, unchanged}
+use Rattle.port_rows.specs.Answers.{withPhy, unconnectedPhy, stagedPhy, unchanged}
 use Rattle.port_rows.specs.Calls.{placed, phyAt, isCancelled, framed, closedDone, disabledDone}
 use Rattle.port_rows.specs.declared.Answer.{Answer}
 use Rattle.port_rows.specs.declared.Confirmed.{Confirmed}
@@ -59,8 +59,8 @@ module _ (p : Port) (l : List Request) (size : length l ≡ 32) (eight : length 
   emptied : (g : Phy) → PhyKept (p .count) g k → (g .slot < 32 → ⊥) → (a : Answer) → f .slot ≡ a .slot → (q : Port) → Kept (withPhy p k g now) (leftOf l (stored q a blank unchanged))
   emptied g kept still a same q = parted g kept still a same blank (λ e. absurd (omega arith)) unchanged (λ e. absurd (never e)) (λ h. free-enters p l (a .slot) unchanged now) q
 
-  pub idle-kept : PhyKept (p .count) idlePhy k
-  idle-kept = rests-kept (p .count) idlePhy k low (omega arith) (omega arith) refl (no-need idlePhy 1 refl (λ e. omega arith) (λ e. omega arith) (λ e. omega arith))
+  pub unconnected-kept : PhyKept (p .count) unconnectedPhy k
+  unconnected-kept = rests-kept (p .count) unconnectedPhy k low (omega arith) (omega arith) refl (no-need unconnectedPhy 1 refl (λ e. omega arith) (λ e. omega arith) (λ e. omega arith))
 
   off-kept : PhyKept (p .count) off k
   off-kept = rests-kept (p .count) off k low (omega arith) (omega arith) refl (no-need off 0 refl (λ e. omega arith) (λ e. omega arith) (λ e. omega arith))
@@ -68,10 +68,10 @@ module _ (p : Port) (l : List Request) (size : length l ≡ 32) (eight : length 
   staged-kept : (n : ℕ) → n ≤ 6 → (n ≡ 2 → ⊥) → (n ≡ 4 → ⊥) → (n ≡ 6 → ⊥) → PhyKept (p .count) (stagedPhy n 32 f) k
   staged-kept n most a b c = rests-kept (p .count) (stagedPhy n 32 f) k low most (phy-kept p l was k low .protocol) refl (no-need (stagedPhy n 32 f) n refl a b c)
 
-  pub enable-keeps : f .stage ≡ 0 → Kept (withPhy p k idlePhy now) (leftOf l (enabledBy p r x))
+  pub enable-keeps : f .stage ≡ 0 → Kept (withPhy p k unconnectedPhy now) (leftOf l (enabledBy p r x))
   enable-keeps disabled =
       let none = names-none p l was k (in-port p l was k low) 0 disabled (inl (omega arith)) in
-      emptied idlePhy idle-kept (λ h. omega arith) (enabledBy p r x .answer) (at-end none (phy-kept p l was k low .slot)) (withPhy p k idlePhy now)
+      emptied unconnectedPhy unconnected-kept (λ h. omega arith) (enabledBy p r x .answer) (at-end none (phy-kept p l was k low .slot)) (withPhy p k unconnectedPhy now)
     where
       at-end : (f .slot < 32 → ⊥) → f .slot ≤ 32 → f .slot ≡ 32
       at-end none most = omega arith
@@ -88,7 +88,7 @@ module _ (p : Port) (l : List Request) (size : length l ≡ 32) (eight : length 
       closing = staged-kept 5 (omega arith) (λ d. omega arith) (λ d. omega arith) (λ d. omega arith)
 
   pub closed-keeps : Kept (closedDone p f r x .port) (leftOf l (closedDone p f r x))
-  closed-keeps = emptied idlePhy idle-kept (λ h. omega arith) (closedDone p f r x .answer) refl (closedDone p f r x .port)
+  closed-keeps = emptied unconnectedPhy unconnected-kept (λ h. omega arith) (closedDone p f r x .answer) refl (closedDone p f r x .port)
 
   pub disable-keeps : Kept (disabledDone p f r x .port) (leftOf l (disabledDone p f r x))
   disable-keeps =

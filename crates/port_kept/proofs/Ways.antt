@@ -13,7 +13,7 @@ use Rattle.port_parts.specs.declared.Pick.{Pick}
 use Rattle.port_parts.specs.declared.Port.{Port}
 use Rattle.port_parts.specs.declared.Reason.{Reason}
 use Rattle.port_parts.specs.declared.Request.{Request}
-use Rattle.port_rows.specs.Answers.{later, withPhy, idlePhy, joinedPhy, stagedPhy, unchanged, lossBy, told}
+use Rattle.port_rows.specs.Answers.{later, withPhy, unconnectedPhy, joinedPhy, stagedPhy, unchanged, lossBy, told}
 use Rattle.port_rows.specs.Calls.{placed, marked, timed, phyAt, closedPhy, submitted, again, timerAfter, cancelled, sent, opening, closing, idle, chosen}
 use Rattle.port_rows.specs.Finds.{roomOf}
 use Rattle.port_rows.specs.declared.Confirmed.{Confirmed}
@@ -42,7 +42,7 @@ openedBy p f r x t =
 -- cancelled, retried, lost
 abbrev pub failedBy : Port → Phy → Request → Reason → ℕ → ℕ → Bool → Bool → Bool → Done
 failedBy p f r why k now t u v =
-    told (withPhy p k idlePhy now) (cond t CancelAcknowledged (cond (not u) (Ended why) (cond v NexusLoss Retried))) (f .slot) k r
+    told (withPhy p k unconnectedPhy now) (cond t CancelAcknowledged (cond (not u) (Ended why) (cond v NexusLoss Retried))) (f .slot) k r
     (cond (not t && (u && not v)) (again r why now (timerAfter r why now)) blank) (lossBy r (timerAfter r why now))
 
 -- cancelled
@@ -52,14 +52,14 @@ framedBy p f r x t =
 
 -- the phy names a request, which is cancelled
 abbrev pub closedBy : Port → Phy → Request → Confirmed → Bool → Bool → Done
-closedBy p f r x n t = told (withPhy p (x .phy) idlePhy (x .now)) (cond n (cond t CancelAcknowledged ConnectionLost) Taken) (f .slot) (x .phy) r blank unchanged
+closedBy p f r x n t = told (withPhy p (x .phy) unconnectedPhy (x .now)) (cond n (cond t CancelAcknowledged ConnectionLost) Taken) (f .slot) (x .phy) r blank unchanged
 
 abbrev pub disabledBy : Port → Phy → Request → Confirmed → Bool → Bool → Done
 disabledBy p f r x n t =
     told (withPhy p (x .phy) off (x .now)) (cond n (cond t CancelAcknowledged Waiting) Taken) (f .slot) (x .phy) r (cond t blank (placed r 1 0)) unchanged
 
 abbrev pub enabledBy : Port → Request → Confirmed → Done
-enabledBy p r x = told (withPhy p (x .phy) idlePhy (x .now)) Taken 32 (x .phy) r blank unchanged
+enabledBy p r x = told (withPhy p (x .phy) unconnectedPhy (x .now)) Taken 32 (x .phy) r blank unchanged
 
 -- ---- what holds of every way holds of the call
 

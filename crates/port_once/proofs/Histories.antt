@@ -18,6 +18,7 @@ use Rattle.port_parts.specs.Parts.{blank}
 use Rattle.port_parts.specs.declared.Port.{Port}
 use Rattle.port_parts.specs.declared.Request.{Request}
 use Rattle.port_rules.specs.Kept.{Free, Kept}
+use Rattle.port_rows.specs.Finds.{isOf}
 use Rattle.port_rows.specs.declared.Answer.{Answer}
 use Rattle.port_rows.specs.declared.Key.{Key}
 use Rattle.port_rows.specs.declared.Word.{Word}
@@ -25,7 +26,7 @@ use Rattle.port_rows.specs.declared.Word.the-variants.{Taken, Submitted, Nothin
 use Rattle.port.specs.Grounds.{HasKey, Absent}
 use Rattle.port.specs.History.{Call, Entry, isLast, isRefused}
 use Rattle.port_kept.proofs.Enters.{beside}
-use Rattle.port_once.specs.Standing.{isSetup, isSubmitted, isOf, accepts, ends, speaks, submits, lastWords, Standing, gone, there, wrong, sameHead, agrees, accepted, ended, spoken, after, standing}
+use Rattle.port_once.specs.Standing.{isSetup, isSubmitted, accepts, ends, speaks, submits, lastWords, Standing, gone, there, wrong, sameHead, agrees, accepted, ended, spoken, after, standing}
 use Rattle.port_once.specs.Turns.{keyed, Stays, OthersStay, Comes, Leaves, Rests, Turns, Holds}
 
 -- ---- words and keys

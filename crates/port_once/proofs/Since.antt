@@ -17,6 +17,7 @@ use Rattle.port_parts.specs.declared.Request.{Request}
 use Rattle.port_parts.specs.declared.Stamp.{Stamp}
 use Rattle.port_rules.specs.Kept.{Free, Kept}
 use Rattle.port_rows.specs.Calls.{timed, isCancelled}
+use Rattle.port_rows.specs.Finds.{isOf}
 use Rattle.port_rows.specs.declared.Answer.{Answer}
 use Rattle.port_rows.specs.declared.Done.{Done}
 use Rattle.port_rows.specs.declared.Key.{Key}
@@ -30,7 +31,7 @@ use Rattle.port.specs.History.{State, Call, doneOf, steppedBy, isRefused, isLas
 use Rattle.port.proofs.Begins.{left-here, left-there}
 use Rattle.port_kept.proofs.Leaves.{taken-entry, by-step}
 use Rattle.port_kept.proofs.Spreads.{by-spread}
-use Rattle.port_once.specs.Standing.{isSetup, isSubmitted, isOf, accepts, speaks}
+use Rattle.port_once.specs.Standing.{isSetup, isSubmitted, accepts, speaks}
 use Rattle.port_once.specs.Turns.{keyed, Turns, Lawful}
 use Rattle.port_once.specs.Runs.{Run, now, past}
 use Rattle.port_once.specs.Marks.{isCancel, isAcknowledged, isGoing, isChoose, isClose, since, cancels, closes}

@@ -6,6 +6,7 @@ use mathlib.Core.List.{List, [], _∷_}
 use lib.Dec.{eqb, ltb}
 use Rattle.laws.specs.Sets.{bit}
 use Rattle.open_frame.specs.declared.Head.{Head}
+use Rattle.port_rows.specs.Finds.{isOf}
 use Rattle.port_rows.specs.declared.Answer.{Answer}
 use Rattle.port_rows.specs.declared.Key.{Key}
 use Rattle.port_rows.specs.declared.Word.{Word}
@@ -40,10 +41,6 @@ isSubmitted NexusLoss = false
 isSubmitted ConnectionLost = false
 isSubmitted (Status byte) = false
 isSubmitted (Refused k) = false
-
--- a head has the key x
-abbrev pub isOf : Head → Key → Bool
-isOf h x = eqb (h .destination) (x .destination) && (eqb (h .protocol) (x .protocol) && eqb (h .tag) (x .tag))
 
 -- the entry accepts a submit of x
 abbrev pub accepts : Key → Entry → Bool

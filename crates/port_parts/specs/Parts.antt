@@ -48,8 +48,8 @@ abbrev pub isSending : Phy → Bool
 isSending p = eqb (p .stage) 4
 
 -- closing and idle
-abbrev pub isClosing : Phy → Bool
-isClosing p = eqb (p .stage) 5
+abbrev pub isClosingIdle : Phy → Bool
+isClosingIdle p = eqb (p .stage) 5
 
 -- closing with a frame out
 abbrev pub isClosingSending : Phy → Bool

@@ -3,7 +3,7 @@ ghost use mathlib.Core.Path.{_≡_};
 ghost use Prim.Native.Nat.{_+_, _≤_, _<_, min};
 ghost use lib.Dec.{leb};
 ghost use Rattle.laws.specs.Sets.{bit};
-ghost use Rattle.port_parts.specs.Parts.{inRange, off, none, blank, isFree, isWaiting, isInProgress, isSsp};
+ghost use Rattle.port_parts.specs.Parts.{inRange, off, none, blank};
 ghost use Rattle.port_parts.specs.Choice.{joinedOf, setsOf, wayOf, isReady, nothing, pickOf, earlierOf, chosenStep};
 ghost use Rattle.port_parts.specs.Reasons.{reasonOf, isListed, isRetried, isBlocked, isStarting, isStopping};
 ghost use Rattle.port_parts.specs.Choice as choice;
@@ -177,31 +177,6 @@ pub fn freed() -> Request
         first: no_stamp(),
         loss: no_stamp(),
     }
-}
-
-pub fn is_free(r: Request) -> bool
-    ensures { λ a. ⌜ a ≡ isFree r ⌝ }
-{
-    r.stage == 0
-}
-
-pub fn is_waiting(r: Request) -> bool
-    ensures { λ a. ⌜ a ≡ isWaiting r ⌝ }
-{
-    r.stage == 1
-}
-
-pub fn is_in_progress(r: Request) -> bool
-    ensures { λ a. ⌜ a ≡ isInProgress r ⌝ }
-{
-    r.stage == 2
-}
-
-// Whether h is of an SSP request.
-pub fn is_ssp(h: Head) -> bool
-    ensures { λ a. ⌜ a ≡ isSsp h ⌝ }
-{
-    h.protocol == 1
 }
 
 // A place in the list as a byte; 32 is no slot.

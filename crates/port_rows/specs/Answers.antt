@@ -50,8 +50,8 @@ noPort = record { count = 0; loss = 0; last = 0; phys = replicate 8 noPhy }
 -- ---- phys
 
 -- unconnected, free for an open
-abbrev pub idlePhy : Phy
-idlePhy = record { stage = 1; slot = 32; protocol = 0; destination = 0 }
+abbrev pub unconnectedPhy : Phy
+unconnectedPhy = record { stage = 1; slot = 32; protocol = 0; destination = 0 }
 
 abbrev pub openingPhy : ℕ → Phy
 openingPhy s = record { stage = 2; slot = s; protocol = 0; destination = 0 }

@@ -12,7 +12,7 @@ use Rattle.open_frame.specs.Wait.{awtOf}
 use Rattle.open_frame.specs.declared.Awt.{Awt}
 use Rattle.open_frame.specs.declared.Head.{Head}
 use Rattle.open_frame.specs.declared.Pbc.{Pbc}
-use Rattle.port_parts.specs.Parts.{none, stamped, isSet, off, noPhy, isDisabled, isOpening, isIdle, isSending, isClosing, isClosingSending, blank, isWaiting, isSsp, inRange, names, hasFrameOut}
+use Rattle.port_parts.specs.Parts.{none, stamped, isSet, off, noPhy, isDisabled, isOpening, isIdle, isSending, isClosingIdle, isClosingSending, blank, isWaiting, isSsp, inRange, names, hasFrameOut}
 use Rattle.port_parts.specs.Reasons.{reasonOf, isListed, isRetried, isBlocked, isStarting, isStopping}
 use Rattle.port_parts.specs.Timer.{timerBy, isLost}
 use Rattle.port_parts.specs.declared.Phy.{Phy}
@@ -21,7 +21,7 @@ use Rattle.port_parts.specs.declared.Port.{Port}
 use Rattle.port_parts.specs.declared.Reason.{Reason}
 use Rattle.port_parts.specs.declared.Request.{Request}
 use Rattle.port_parts.specs.declared.Stamp.{Stamp}
-use Rattle.port_rows.specs.Answers.{noFrame, nameless, later, withPhy, fresh, noPort, idlePhy, openingPhy, joinedPhy, stagedPhy, unchanged, lossBy, told, refusedBy}
+use Rattle.port_rows.specs.Answers.{noFrame, nameless, later, withPhy, fresh, noPort, unconnectedPhy, openingPhy, joinedPhy, stagedPhy, unchanged, lossBy, told, refusedBy}
 use Rattle.port_rows.specs.declared.Word.{Word}
 use Rattle.port_rows.specs.declared.Word.the-variants.{Taken, Submitted, Nothing, Send, Open, Close, StopArb, Retried, Waiting, CancelAcknowledged, Ended, NexusLoss, ConnectionLost, Status}
 use Rattle.port_rows.specs.declared.Room.{Room}
@@ -257,7 +257,7 @@ isAgain p r why now = not (isCancelled r) && (isRetried why && not (isSsp (r .he
 
 abbrev pub failed : Port → Phy → Request → Reason → ℕ → ℕ → Done
 failed p f r why k now =
-    told (withPhy p k idlePhy now) (failedWord p r why now) (f .slot) k r (cond (isAgain p r why now) (again r why now (timerAfter r why now)) blank)
+    told (withPhy p k unconnectedPhy now) (failedWord p r why now) (f .slot) k r (cond (isAgain p r why now) (again r why now (timerAfter r why now)) blank)
     (lossBy r (timerAfter r why now))
 
 abbrev pub failedCauses : Port → Bool → Failure → Bool → List Cause
@@ -279,12 +279,12 @@ frameStatusOf p r kept x =
     refuse (refusedBy p) (phyCauses p kept (x .phy) (x .now) (not (hasFrameOut (phyAt p (x .phy))))) (framed p (phyAt p (x .phy)) r x)
 
 abbrev pub isJoined : Phy → Bool
-isJoined f = (isIdle f || isSending f) || (isClosing f || isClosingSending f)
+isJoined f = (isIdle f || isSending f) || (isClosingIdle f || isClosingSending f)
 
 -- 01 PORT.21: Closed: phy free, its request ends as connection lost.
 abbrev pub closedDone : Port → Phy → Request → Confirmed → Done
 closedDone p f r x =
-    told (withPhy p (x .phy) idlePhy (x .now)) (cond (names f) (cond (isCancelled r) CancelAcknowledged ConnectionLost) Taken) (f .slot) (x .phy) r blank unchanged
+    told (withPhy p (x .phy) unconnectedPhy (x .now)) (cond (names f) (cond (isCancelled r) CancelAcknowledged ConnectionLost) Taken) (f .slot) (x .phy) r blank unchanged
 
 unfoldable pub closedOf : Port → Request → Bool → Confirmed → Done
 closedOf p r kept x =
@@ -293,7 +293,7 @@ closedOf p r kept x =
 unfoldable pub enableOf : Port → Request → Bool → Confirmed → Done
 enableOf p r kept x =
     refuse (refusedBy p) (phyCauses p kept (x .phy) (x .now) (not (isDisabled (phyAt p (x .phy)))))
-    (told (withPhy p (x .phy) idlePhy (x .now)) Taken 32 (x .phy) r blank unchanged)
+    (told (withPhy p (x .phy) unconnectedPhy (x .now)) Taken 32 (x .phy) r blank unchanged)
 
 -- 01 PORT.22: A disabled phy's request waits again, wait and PBC kept.
 abbrev pub disabledDone : Port → Phy → Request → Confirmed → Done

@@ -25,10 +25,13 @@ roomStep a r i h =
 abbrev pub roomOf : List Request → Head → Room
 roomOf l h = foldTo blank (λ a r i. roomStep a r i h) noRoom l 32
 
+-- a head has the key x
+abbrev pub isOf : Head → Key → Bool
+isOf h x = eqb (h .destination) (x .destination) && (eqb (h .protocol) (x .protocol) && eqb (h .tag) (x .tag))
+
 -- cancel looks for the request with a key
 abbrev pub hasKey : Request → Key → Bool
-hasKey r x =
-    not (isFree r) && (eqb (r .head .destination) (x .destination) && (eqb (r .head .protocol) (x .protocol) && eqb (r .head .tag) (x .tag)))
+hasKey r x = not (isFree r) && isOf (r .head) x
 
 abbrev pub keyStep : ℕ → Request → ℕ → Key → ℕ
 keyStep a r i x = cond (eqb a 32 && hasKey r x) (min i 32) a

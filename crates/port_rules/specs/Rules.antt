@@ -6,7 +6,7 @@ use lib.Dec.{eqb, leb, ltb}
 use lib.ListN.{getD}
 use Rattle.laws.specs.Folds.{foldTo, foldFrom, allBelow}
 use Rattle.open_frame.specs.Open.{headListed}
-use Rattle.port_parts.specs.Parts.{noPhy, blank, inRange, isSet, isDisabled, isOpening, isClosing, hasFrameOut, names, isFree, isInProgress, isSsp, sameKey, sameNexus}
+use Rattle.port_parts.specs.Parts.{noPhy, blank, inRange, isSet, isDisabled, isOpening, isClosingIdle, hasFrameOut, names, isFree, isInProgress, isSsp, sameKey, sameNexus}
 use Rattle.port_parts.specs.declared.Phy.{Phy}
 use Rattle.port_parts.specs.declared.Port.{Port}
 use Rattle.port_parts.specs.declared.Request.{Request}
@@ -18,7 +18,7 @@ abbrev pub mustName : Phy → Bool
 mustName p = isOpening p || hasFrameOut p
 
 abbrev pub namesRight : Phy → Bool
-namesRight p = leb (p .slot) 32 && ((not (mustName p) || names p) && (not (names p) || (mustName p || isClosing p)))
+namesRight p = leb (p .slot) 32 && ((not (mustName p) || names p) && (not (names p) || (mustName p || isClosingIdle p)))
 
 -- phy k of a port that has `count` of them
 abbrev pub phyRule : ℕ → Phy → ℕ → Bool
@@ -27,7 +27,7 @@ phyRule count p k = leb (p .stage) 6 && (ltb (p .protocol) 3 && (namesRight p &&
 unfoldable pub portRule : Port → Bool
 portRule p = inRange (p .count) (p .loss) && allBelow (λ k. phyRule (p .count) (getD (p .phys) k noPhy) k) 8
 
--- request i is in progress on phy k
+-- request r is in progress on phy k
 abbrev pub on : Request → ℕ → Bool
 on r k = isInProgress r && eqb (r .phy) k
 
@@ -57,13 +57,10 @@ presentRule r last =
 unfoldable pub requestRule : Port → Request → ℕ → Bool
 requestRule p r i = paired (p .phys) r i && (isFree r || presentRule r (p .last))
 
-abbrev pub eachStep : Bool → Request → ℕ → Port → Bool
-eachStep kept r i p = kept && requestRule p r i
-
 abbrev pub eachOf : Port → List Request → Bool
-eachOf p l = foldTo blank (λ kept r i. eachStep kept r i p) (portRule p) l 32
+eachOf p l = foldTo blank (λ kept r i. kept && requestRule p r i) (portRule p) l 32
 
--- both are noPhy, or both run from one time
+-- both are off, or both run from one time
 abbrev pub sameTimer : Stamp → Stamp → Bool
 sameTimer s t = ((not (isSet s) || isSet t) && (not (isSet t) || isSet s)) && (not (isSet s) || eqb (s .at) (t .at))
 

@@ -1,8 +1,7 @@
 // Document 01, 'Port': the rules of a lent state, as one test of the port, one of each record, and one of each pair of records.
 ghost use mathlib.Core.Path.{_≡_};
-ghost use mathlib.Core.Bool.{_&&_};
 ghost use Rattle.laws.specs.Folds.{allBelow};
-ghost use Rattle.port_rules.specs.Rules.{phyRule, portRule, pairedAt, paired, presentRule, requestRule, eachStep, apartStep, againstOf};
+ghost use Rattle.port_rules.specs.Rules.{phyRule, portRule, pairedAt, paired, presentRule, requestRule, apartStep, againstOf};
 ghost use Rattle.port_rules.specs.Rules as rules;
 use open_frame::Head;
 use port_parts::Phy;
@@ -100,12 +99,6 @@ pub fn request_rule(p: Port, r: Request, i: usize) -> bool
 {
     let phys = p.phys;
     paired(phys, r, i) & ((r.stage == 0) | present_rule(r, p.last))
-}
-
-pub fn each_step(kept: bool, r: Request, i: usize, p: Port) -> bool
-    ensures { λ a. ⌜ a ≡ eachStep kept r i p ⌝ }
-{
-    kept & request_rule(p, r, i)
 }
 
 // A request at place i, to be held against those behind it.

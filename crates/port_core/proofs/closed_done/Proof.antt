@@ -3,8 +3,8 @@ use borrow.Author.Needs.{needs}
 use Rattle.port_core.proofs.closed_done.Statement.{statement}
 use Rattle.port_core.proofs.closed_done.Tie as tie
 
-idle-phy-requires : tie.Need-idle-phy-requires
-idle-phy-requires c κs = search needs
+unconnected-phy-requires : tie.Need-unconnected-phy-requires
+unconnected-phy-requires c κs = search needs
 
 with-phy-requires : tie.Need-with-phy-requires
 with-phy-requires c κs = search needs
@@ -16,9 +16,9 @@ ended-requires : tie.Need-ended-requires
 ended-requires c κs = search needs
 
 returns : tie.Need-returns
-returns c = rw (c .ended .ensures, c .before .left-word .ensures, c .before .before .before .before .with-phy .ensures, c .before .before .before .before .before .idle-phy .ensures)
+returns c = rw (c .ended .ensures, c .before .left-word .ensures, c .before .before .before .before .with-phy .ensures, c .before .before .before .before .before .unconnected-phy .ensures)
 
 pub closed-done-spec : {M : Type 1} → statement M
 closed-done-spec =
     tie.close
-    (tie.spec idle-phy-requires with-phy-requires left-word-requires ended-requires returns)
+    (tie.spec unconnected-phy-requires with-phy-requires left-word-requires ended-requires returns)

@@ -3,8 +3,8 @@ use borrow.Author.Needs.{needs}
 use Rattle.port_core.proofs.failed.Statement.{statement}
 use Rattle.port_core.proofs.failed.Tie as tie
 
-idle-phy-requires : tie.Need-idle-phy-requires
-idle-phy-requires c κs = search needs
+unconnected-phy-requires : tie.Need-unconnected-phy-requires
+unconnected-phy-requires c κs = search needs
 
 with-phy-requires : tie.Need-with-phy-requires
 with-phy-requires c κs = search needs
@@ -31,13 +31,13 @@ told-requires : tie.Need-told-requires
 told-requires c κs = search needs
 
 returns : tie.Need-returns
-returns c = rw (c .told .ensures, c .before .loss-by .ensures, c .before .before .failed-entry .ensures, c .before .before .before .failed-word .ensures, c .before .before .before .before .is-lost .ensures, c .before .before .before .before .before .before .is-retried .ensures, c .before .before .before .before .before .before .before .before .timer-after .ensures, c .before .before .before .before .before .before .before .before .before .with-phy .ensures, c .before .before .before .before .before .before .before .before .before .before .idle-phy .ensures)
+returns c = rw (c .told .ensures, c .before .loss-by .ensures, c .before .before .failed-entry .ensures, c .before .before .before .failed-word .ensures, c .before .before .before .before .is-lost .ensures, c .before .before .before .before .before .before .is-retried .ensures, c .before .before .before .before .before .before .before .before .timer-after .ensures, c .before .before .before .before .before .before .before .before .before .with-phy .ensures, c .before .before .before .before .before .before .before .before .before .before .unconnected-phy .ensures)
 
 pub failed-spec : {M : Type 1} → statement M
 failed-spec =
     tie.close
     (tie.spec
-    idle-phy-requires
+    unconnected-phy-requires
     with-phy-requires
     timer-after-requires
     is-retried-requires
