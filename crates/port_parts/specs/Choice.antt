@@ -47,6 +47,7 @@ some f ps = ltb 0 (countOf f ps)
 abbrev pub noWay : Way
 noWay = record { step = 0; phy = 0 }
 
+-- 01 PORT.13
 unfoldable pub wayOf : List Phy → Request → Way
 wayOf ps r =
     cond (some (forSend (r .head)) ps) (by 1 (forSend (r .head)) ps)
@@ -65,6 +66,7 @@ unfoldable pub pickOf : Asked → Request → ℕ → Pick
 pickOf x r i =
     cond (isReady r (x .now)) (record { step = wayOf (x .phys) r .step; phy = wayOf (x .phys) r .phy; slot = min i 32; at = r .submitted }) nothing
 
+-- 01 PORT.12
 -- the earlier of two, a where they are even
 abbrev pub earlierOf : Pick → Pick → Pick
 earlierOf a b = cond (not (eqb (b .step) 0) && (eqb (a .step) 0 || ltb (b .at) (a .at))) b a

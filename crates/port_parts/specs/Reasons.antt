@@ -70,6 +70,7 @@ isStarting OpenTimeOut = false
 isStarting BreakReceived = false
 isStarting Other = false
 
+-- 01 PORT.24
 abbrev pub isStopping : Reason → Bool
 isStopping NoDestination = false
 isStopping BadDestination = false

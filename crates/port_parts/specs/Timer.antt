@@ -5,6 +5,7 @@ use lib.Dec.{eqb, leb}
 use Rattle.port_parts.specs.Parts.{none, stamped, isSet}
 use Rattle.port_parts.specs.declared.Stamp.{Stamp}
 
+-- 01 PORT.24
 -- the timer t after a confirmation that stops it, or starts it if it isn't running
 abbrev pub timerBy : Bool → Bool → Stamp → ℕ → Stamp
 timerBy stops starts t now = cond stops none (cond (starts && not (isSet t)) (stamped now) t)

@@ -53,7 +53,8 @@ module _ (p : Port) (v : Room) (x : Wish) (listed : headListed (x .head) ≡ tru
   unfolding submitOf
   full absent none-free = rw (listed, due, absent, none-free)
 
-  -- 01 PROMISE.3: and taken where it isn't: not everything is refused
+  -- 01 PROMISE.3
+  -- and taken where it isn't: not everything is refused
   submitted : v .same ≡ false → leb 32 (v .free) ≡ false → submitOf p true v x .answer .word ≡ Submitted
   unfolding submitOf
   submitted absent free = rw (listed, due, absent, free)
@@ -84,8 +85,8 @@ module _ (p : Port) (r : Request) (x : Failure) (listed : isListed (reasonOf (x 
 
   -- and the request that is retried
   module _ (again : isAgain p r (reasonOf (x .why)) (x .now) ≡ true) where
-    -- 01 PORT.19: Pathway Blocked keeps the wait running, since the first open stays
     module _ (blocked : reasonOf (x .why) ≡ Reason.PathwayBlocked) where
+      -- 01 PORT.19: Pathway Blocked keeps the wait running, since the first open stays
       runs-on : openFailedOf p r true x .entry .first ≡ r .first
       unfolding openFailedOf
       runs-on = rw (listed, own, due, opening, again, blocked)
@@ -95,8 +96,8 @@ module _ (p : Port) (r : Request) (x : Failure) (listed : isListed (reasonOf (x 
       unfolding openFailedOf
       counts-on = rw (listed, own, due, opening, again, blocked)
 
-    -- 01 PORT.19: the other retries reset both
     module _ (other : isBlocked (reasonOf (x .why)) ≡ false) where
+      -- 01 PORT.19: the other retries reset both
       wait-reset : openFailedOf p r true x .entry .first ≡ none
       unfolding openFailedOf
       wait-reset = rw (listed, own, due, opening, again, other)

@@ -117,6 +117,7 @@ given (Checked.Refused k) p d = refusedBy p k
 
 -- ---- setup
 
+-- 01 REFUSAL.3
 unfoldable pub setupOf : ℕ → ℕ → Done
 setupOf count loss =
     refuse (refusedBy noPort) ((Refusal.Rules when not (inRange count loss)) ∷ [])
@@ -124,6 +125,7 @@ setupOf count loss =
 
 -- ---- submit
 
+-- 01 REFUSAL.2 01 REFUSAL.3 01 REFUSAL.5 01 REFUSAL.9 01 REFUSAL.10
 abbrev pub submitCauses : Port → Bool → Room → Wish → List Cause
 submitCauses p kept v x =
     (Refusal.Unlisted when not (headListed (x .head)))
@@ -156,7 +158,7 @@ submitOf p kept v x =
 
 -- ---- cancel
 
--- 01 REFUSAL.14
+-- 01 REFUSAL.2 01 REFUSAL.3 01 REFUSAL.5 01 REFUSAL.6 01 REFUSAL.14
 abbrev pub cancelCauses : Port → Request → Bool → ℕ → Withdrawn → List Cause
 cancelCauses p r kept s x =
     (Refusal.Unlisted when not (ltb (x .key .protocol) 3))
@@ -180,6 +182,7 @@ cancelOf p r kept s x = refuse (refusedBy p) (cancelCauses p r kept s x) (cancel
 
 -- ---- choose
 
+-- 01 REFUSAL.3 01 REFUSAL.5
 abbrev pub chooseCauses : Port → Bool → ℕ → List Cause
 chooseCauses p kept now = (Refusal.Rules when not kept) ∷ (Refusal.Past when ltb now (p .last)) ∷ []
 
@@ -190,9 +193,11 @@ sent p r b now = told (withPhy p (b .phy) (stagedPhy 4 (b .slot) (phyAt p (b .ph
 abbrev pub firstOpen : Request → ℕ → Stamp
 firstOpen r now = cond (isSet (r .first)) (r .first) (stamped now)
 
+-- 01 PORT.16
 abbrev pub waitSince : Request → ℕ → Awt
 waitSince r now = awtOf (now - firstOpen r now .at)
 
+-- 01 PORT.16
 abbrev pub opening : Port → Request → Pick → ℕ → Done
 opening p r b now =
     record {
@@ -218,11 +223,13 @@ chooseOf p r kept b now = refuse (refusedBy p) (chooseCauses p kept now) (chosen
 
 -- ---- a phy's calls: f is the phy, r the request that it names
 
+-- 01 REFUSAL.3 01 REFUSAL.4 01 REFUSAL.5 01 REFUSAL.6
 abbrev pub phyCauses : Port → Bool → ℕ → ℕ → Bool → List Cause
 phyCauses p kept k now unfit =
     (Refusal.Rules when not kept) ∷ (Refusal.Phy when not (ltb k (p .count))) ∷ (Refusal.Past when ltb now (p .last)) ∷ (Refusal.Unfit when unfit) ∷ []
 
 -- 01 PORT.17: Opened: the frame goes.
+-- 01 PORT.24
 abbrev pub connected : Port → Phy → Request → Confirmed → Done
 connected p f r x =
     told (withPhy p (x .phy) (joinedPhy (cond (isCancelled r) 5 4) (f .slot) (r .head)) (x .now)) (cond (isCancelled r) Close Send) (f .slot) (x .phy) r
@@ -236,16 +243,19 @@ openedOf p r kept x = refuse (refusedBy p) (phyCauses p kept (x .phy) (x .now) (
 abbrev pub oneMore : Pbc → Pbc
 oneMore n = record { 0 = min (n .0 + 1) 255 }
 
+-- 01 PORT.19
 abbrev pub again : Request → Reason → ℕ → Stamp → Request
 again r why now t =
     timed
     (waited (placed r 1 0) (cond (isBlocked why) (oneMore (r .pbc)) (record { 0 = 0 })) (cond (isBlocked why) (r .awt) (record { 0 = 0 })) (stamped now)
     (cond (isBlocked why) (r .first) none)) t
 
+-- 01 PORT.24
 -- the destination's timer after the confirmation
 abbrev pub timerAfter : Request → Reason → ℕ → Stamp
 timerAfter r why now = cond (isSsp (r .head)) (timerBy (isStopping why) (isStarting why) (r .loss) now) (r .loss)
 
+-- 01 PORT.18 01 PORT.25
 -- Cancel Acknowledged comes before a reason that ends, and that before I_T Nexus Loss
 abbrev pub failedWord : Port → Request → Reason → ℕ → Word
 failedWord p r why now =
@@ -255,14 +265,17 @@ failedWord p r why now =
 abbrev pub isAgain : Port → Request → Reason → ℕ → Bool
 isAgain p r why now = not (isCancelled r) && (isRetried why && not (isSsp (r .head) && isLost (timerAfter r why now) (p .loss) now))
 
+-- 01 PORT.18
 abbrev pub failed : Port → Phy → Request → Reason → ℕ → ℕ → Done
 failed p f r why k now =
     told (withPhy p k unconnectedPhy now) (failedWord p r why now) (f .slot) k r (cond (isAgain p r why now) (again r why now (timerAfter r why now)) blank)
     (lossBy r (timerAfter r why now))
 
+-- 01 REFUSAL.2
 abbrev pub failedCauses : Port → Bool → Failure → Bool → List Cause
 failedCauses p kept x unfit = (Refusal.Unlisted when not (isListed (reasonOf (x .why)))) ∷ phyCauses p kept (x .phy) (x .now) unfit
 
+-- 01 REFUSAL.14
 unfoldable pub openFailedOf : Port → Request → Bool → Failure → Done
 openFailedOf p r kept x =
     refuse (refusedBy p) (failedCauses p kept x (not (isOpening (phyAt p (x .phy)))))
@@ -274,6 +287,7 @@ framed p f r x =
     told (withPhy p (x .phy) (stagedPhy (cond (isSending f) 3 5) 32 f) (x .now)) (cond (isCancelled r) CancelAcknowledged (Status (x .status))) (f .slot) (x .phy) r
     blank unchanged
 
+-- 01 REFUSAL.14
 unfoldable pub frameStatusOf : Port → Request → Bool → Report → Done
 frameStatusOf p r kept x =
     refuse (refusedBy p) (phyCauses p kept (x .phy) (x .now) (not (hasFrameOut (phyAt p (x .phy))))) (framed p (phyAt p (x .phy)) r x)
@@ -286,10 +300,12 @@ abbrev pub closedDone : Port → Phy → Request → Confirmed → Done
 closedDone p f r x =
     told (withPhy p (x .phy) unconnectedPhy (x .now)) (cond (names f) (cond (isCancelled r) CancelAcknowledged ConnectionLost) Taken) (f .slot) (x .phy) r blank unchanged
 
+-- 01 REFUSAL.14
 unfoldable pub closedOf : Port → Request → Bool → Confirmed → Done
 closedOf p r kept x =
     refuse (refusedBy p) (phyCauses p kept (x .phy) (x .now) (not (isJoined (phyAt p (x .phy))))) (closedDone p (phyAt p (x .phy)) r x)
 
+-- 01 REFUSAL.14
 unfoldable pub enableOf : Port → Request → Bool → Confirmed → Done
 enableOf p r kept x =
     refuse (refusedBy p) (phyCauses p kept (x .phy) (x .now) (not (isDisabled (phyAt p (x .phy)))))
@@ -301,6 +317,7 @@ disabledDone p f r x =
     told (withPhy p (x .phy) off (x .now)) (cond (names f) (cond (isCancelled r) CancelAcknowledged Waiting) Taken) (f .slot) (x .phy) r
     (cond (isCancelled r) blank (placed r 1 0)) unchanged
 
+-- 01 REFUSAL.14
 unfoldable pub disableOf : Port → Request → Bool → Confirmed → Done
 disableOf p r kept x =
     refuse (refusedBy p) (phyCauses p kept (x .phy) (x .now) (isDisabled (phyAt p (x .phy)))) (disabledDone p (phyAt p (x .phy)) r x)
