@@ -6,13 +6,14 @@ use mathlib.Core.Bool.{Bool, true, false}
 use mathlib.Core.List.{List, _∷_}
 use mathlib.Core.Logic.{_↔_}
 use mathlib.Core.Path.{_≡_}
-use lib.ListN.{length}
+use lib.ListN.{length, getD}
 use Rattle.laws.specs.Tests.{Says}
 use Rattle.refusals.specs.Causes.{First}
 use Rattle.refusals.specs.declared.Refusal.{Refusal}
-use Rattle.port_parts.specs.Parts.{isSet}
+use Rattle.port_parts.specs.Parts.{blank, isSet, isSsp}
 use Rattle.port_parts.specs.Choice.{chosenOf}
 use Rattle.port_parts.specs.Qualifies.{Fits, Right}
+use Rattle.port_parts.specs.Reasons.{reasonOf, isStopping}
 use Rattle.port_parts.specs.Timer.{timerBy}
 use Rattle.port_parts.specs.declared.Asked.{Asked}
 use Rattle.port_parts.specs.declared.Pick.{Pick}
@@ -22,17 +23,18 @@ use Rattle.port_parts.specs.declared.Reason.{Reason}
 use Rattle.port_parts.specs.declared.Request.{Request}
 use Rattle.port_parts.specs.declared.Stamp.{Stamp}
 use Rattle.port_parts.proofs.Choices.{choose-right, nothing-exactly}
-use Rattle.port_parts.proofs.Timers.{runs-on}
+use Rattle.port_parts.proofs.Timers as timer
 use Rattle.port_rules.specs.Rules.{rules}
-use Rattle.port_rules.specs.Kept.{Kept, InRange}
+use Rattle.port_rules.specs.Kept.{Kept, InRange, Free}
 use Rattle.port_rules.proofs.Facts.{rules-say}
 use Rattle.port_rows.specs.Answers.{fresh, refusedBy}
 use Rattle.port_rows.specs.Calls.{bare}
+use Rattle.port_rows.specs.declared.Failure.{Failure}
 use Rattle.port_rows.specs.declared.Word.the-variants.{Taken, Refused}
-use Rattle.port.specs.Calls.{leftOf, Called, pickAt}
+use Rattle.port.specs.Calls.{leftOf, Called, onPhy, pickAt}
 use Rattle.port.specs.Chooses.{Tells}
 use Rattle.port.specs.Grounds.{groundsOf}
-use Rattle.port.specs.History.{State, Call, setup, choose, doneOf, shortOf, steppedBy, isRefused, leave, run}
+use Rattle.port.specs.History.{State, Call, setup, choose, openFailed, doneOf, shortOf, steppedBy, isRefused, leave, run}
 use Rattle.port.specs.declared.Moment.{Moment}
 use Rattle.port.specs.declared.Stepped.{Stepped}
 use Rattle.port.proofs.Promised.{refused-leaves}
@@ -42,6 +44,7 @@ use Rattle.port.proofs.Chooses.{choose-tells}
 use Rattle.port_kept.specs.Ranged.{Ranged}
 use Rattle.port_kept.proofs.Leaves.{taken-so, refused-so}
 use Rattle.port_kept.proofs.Runs.{kept-sound, kept-since, run-length, never-three-since}
+use Rattle.port_kept.proofs.Timers.{timers-run-on}
 
 -- 01 PORT.12 01 PORT.13 01 PORT.14 01 PORT.15
 pub record Ports : Type 1 where
@@ -50,6 +53,9 @@ pub record Ports : Type 1 where
   -- and choose, where it is not refused, answers that pick
   pub answers : (s : State) (x : Moment) → isRefused (steppedBy (choose x) s .answer .word) ≡ false → Tells (pickAt (s .list) (s .port) (x .now)) (steppedBy (choose x) s .answer)
   -- 01 TRAP.3
+  -- Open Failed of an SSP request whose destination's timer runs, with a reason that doesn't stop it: each request that is present behind it has
+  -- the timer that it had
+  pub runs-on : (s : State) (x : Failure) → isSsp (onPhy (s .list) (s .port) (x .phy) .head) ≡ true → isSet (onPhy (s .list) (s .port) (x .phy) .loss) ≡ true → isStopping (reasonOf (x .why)) ≡ false → (i : ℕ) → i < 32 → (Free (getD (leave (openFailed x) s .list) i blank) → ⊥) → getD (leave (openFailed x) s .list) i blank .loss ≡ getD (s .list) i blank .loss
   pub timer : (stops starts : Reason → Bool) (why : Reason) (t : Stamp) (now : ℕ) → stops why ≡ false → isSet t ≡ true → timerBy (stops why) (starts why) t now ≡ t
   -- 01 PORT.4 01 PORT.5 01 PORT.6 01 PORT.7 01 PORT.8 01 PORT.9 01 PORT.10
   pub kept : (p : Port) (l : List Request) → Says (rules p l) (Kept p l)
@@ -76,7 +82,8 @@ ports = record {
   chooses = choose-right;
   nothing = nothing-exactly;
   answers = choose-tells;
-  timer = runs-on;
+  runs-on = timers-run-on;
+  timer = timer.runs-on;
   kept = rules-say;
   begins = setup-kept;
   keeps = kept-sound;

@@ -12,5 +12,6 @@ mod Cancels
 mod Chooses
 mod Submits
 pub mod Leaves
+pub mod Timers
 pub mod Keeps
 pub mod Runs

@@ -6,8 +6,8 @@ use mathlib.Core.Path.{_≡_}
 use lib.Dec.{eqb, leb, ltb}
 use Rattle.refusals.specs.declared.Refusal.{Refusal}
 use Rattle.open_frame.specs.Open.{headListed}
-use Rattle.port_parts.specs.Parts.{none, isOpening, blank, isFree, isSsp, inRange}
-use Rattle.port_parts.specs.Reasons.{reasonOf, isListed, isRetried, isBlocked}
+use Rattle.port_parts.specs.Parts.{none, isSet, isOpening, blank, isFree, isSsp, inRange}
+use Rattle.port_parts.specs.Reasons.{reasonOf, isListed, isRetried, isBlocked, isStopping}
 use Rattle.port_parts.specs.Timer.{isLost}
 use Rattle.port_parts.specs.declared.Port.{Port}
 use Rattle.port_parts.specs.declared.Reason.{Reason}
@@ -20,6 +20,7 @@ use Rattle.port_rows.specs.declared.Room.{Room}
 use Rattle.port_rows.specs.declared.Wish.{Wish}
 use Rattle.port_rows.specs.declared.Confirmed.{Confirmed}
 use Rattle.port_rows.specs.declared.Failure.{Failure}
+use Rattle.port_rows.proofs.Timers.{timer-stays, unchanged-by}
 
 -- 01 PORT.2: a setup in range is taken, and every record is set free
 setup-taken : (count loss : ℕ) → inRange count loss ≡ true → (setupOf count loss .answer .word ≡ Taken) × (setupOf count loss .cleared ≡ true)
@@ -82,6 +83,20 @@ module _ (p : Port) (r : Request) (x : Failure) (listed : isListed (reasonOf (x 
   nexus-lost : isCancelled r ≡ false → isRetried (reasonOf (x .why)) ≡ true → isSsp (r .head) && isLost (timerAfter r (reasonOf (x .why)) (x .now)) (p .loss) (x .now) ≡ true → openFailedOf p r true x .answer .word ≡ NexusLoss
   unfolding openFailedOf
   nexus-lost wanted retried lost = rw (wanted, retried, lost, listed, own, due, opening)
+
+  -- an SSP request whose destination's loss timer runs, and a reason that doesn't stop it
+  module _ (ssp : isSsp (r .head) ≡ true) (running : isSet (r .loss) ≡ true) (going : isStopping (reasonOf (x .why)) ≡ false) where
+    -- 01 TRAP.3
+    -- no timer changes
+    no-change : openFailedOf p r true x .loss .change ≡ false
+    unfolding openFailedOf
+    no-change = rw (listed, own, due, opening) (unchanged-by r (reasonOf (x .why)) (x .now) ssp running going)
+
+    -- 01 TRAP.3
+    -- and where the request waits again it has the timer that it had
+    timer-kept : isAgain p r (reasonOf (x .why)) (x .now) ≡ true → openFailedOf p r true x .entry .loss ≡ r .loss
+    unfolding openFailedOf
+    timer-kept again = rw (listed, own, due, opening, again) (timer-stays r (reasonOf (x .why)) (x .now) ssp running going)
 
   -- and the request that is retried
   module _ (again : isAgain p r (reasonOf (x .why)) (x .now) ≡ true) where
