@@ -10,15 +10,20 @@ use lib.ListN.{length, getD}
 use Rattle.open_frame.specs.declared.Head.{Head}
 use Rattle.port_parts.specs.Parts.{blank}
 use Rattle.port_rules.specs.Kept.{Free}
+use Rattle.port_rows.specs.Finds.{isOf}
 use Rattle.port_rows.specs.declared.Answer.{Answer}
 use Rattle.port_rows.specs.declared.Key.{Key}
+use Rattle.port_rows.specs.declared.Wish.{Wish}
+use Rattle.port_rows.specs.declared.Withdrawn.{Withdrawn}
+use Rattle.port_rows.specs.declared.Word.the-variants.{Submitted}
 use Rattle.port.specs.Grounds.{HasKey, Absent}
-use Rattle.port.specs.History.{State, Call, steppedBy, isRefused, isLast, leave, run, entriesOf, history}
+use Rattle.port.specs.History.{State, Call, submit, cancel, steppedBy, isRefused, isLast, leave, run, entriesOf, history}
 use Rattle.port_once.specs.Standing.{isSetup, isSubmitted, submits, lastWords, gone, there, wrong, standing, silent}
 use Rattle.port_once.specs.Turns.{keyed, Comes, Leaves, Rests, Holds, Zeros}
 use Rattle.port_once.specs.Runs.{Run, now, past}
 use Rattle.port_once.specs.Ends.{Ends}
 use Rattle.port_once.specs.Marks.{isCancel, isAcknowledged, isGoing, since, cancels, closes}
+use Rattle.port_once.proofs.Givens.{submits-given, cancels-given}
 use Rattle.port_once.proofs.Turns.{comes-when, leaves-when, rests-else, refused-nothing}
 use Rattle.port_once.proofs.Ends.{ends-from}
 use Rattle.port_once.proofs.Since.{acknowledged, withheld, closed-once}
@@ -32,6 +37,10 @@ pub record Leaving : Type 0 where
   -- one call of any lent state; a port has eight phys. 01 PORT.11
   -- Submitted: a request comes into the lowest free slot, no request had its key, and the answer names its slot and head
   pub comes : (c : Call) (s : State) → length (s .port .phys) ≡ 8 → isSubmitted (steppedBy c s .answer .word) ≡ true → Comes (s .list) (leave c s .list) (steppedBy c s .answer)
+  -- a submit that is taken is Submitted, with the head that it was given
+  pub gives : (x : Wish) (s : State) → isRefused (steppedBy (submit x) s .answer .word) ≡ false → (steppedBy (submit x) s .answer .word ≡ Submitted) × (steppedBy (submit x) s .answer .frame .head ≡ x .head)
+  -- and a cancel that is taken answers about a request with the key that it was given
+  pub withdraws : (x : Withdrawn) (s : State) → isRefused (steppedBy (cancel x) s .answer .word) ≡ false → isOf (steppedBy (cancel x) s .answer .frame .head) (x .key) ≡ true
   -- a last word: the request that it names by slot and head was present and is all zeros
   pub leaves : (c : Call) (s : State) → length (s .port .phys) ≡ 8 → isLast (steppedBy c s .answer .word) ≡ true → Leaves (s .list) (leave c s .list) (steppedBy c s .answer)
   -- any other word but a setup's: no request comes and none leaves
@@ -66,6 +75,8 @@ pub record Leaving : Type 0 where
 pub leaving : Leaving
 leaving = record {
   comes = comes-when;
+  gives = submits-given;
+  withdraws = cancels-given;
   leaves = leaves-when;
   rests = rests-else;
   refused = refused-nothing;

@@ -1,11 +1,11 @@
 -- A call of the port is refused exactly by the first of its grounds that holds, since each of its tests decides one ground: the test of
--- the lent state says its rules, and a scan finds a request exactly if there is one. Assumes nothing.
-use Prim.Native.Nat.{ℕ, zero, suc, min, _<_}
+-- the lent state says its rules, a scan finds a request exactly if there is one, and where the rules are kept no two share a key. Assumes nothing.
+use Prim.Native.Nat.{ℕ, zero, suc, min, _<_, _≤_}
 use native.Mathlib.Nat.{not-suc-le-zero}
 use mathlib.Core.Path.{_≡_, refl, sym, ap, subst, _∙_}
 use mathlib.Core.Bool.{Bool, true, false, not, cond, _&&_, _||_}
 use mathlib.Core.List.{List, [], _∷_}
-use mathlib.Core.Logic.{_↔_}
+use mathlib.Core.Logic.{_↔_, _⊎_, inl, inr}
 use native.Mathlib.Omega.{arith}
 use lib.Dec.{eqb, leb, ltb}
 use lib.ListN.{length, getD, List·getD-eq-default}
@@ -13,10 +13,10 @@ use borrow.Author.Tests.{leb-true, le-leb, eqb-true, eq-eqb, ltb-true, ltb-false
 use Rattle.laws.specs.Folds.{foldTo}
 use Rattle.laws.proofs.Bools.{never}
 use Rattle.laws.specs.Tests.{Says}
-use Rattle.laws.proofs.Tests.{less, equal, itself, both, either, unless, means}
+use Rattle.laws.proofs.Tests.{less, equal, itself, both, either, unless, means, below-or-not}
 use Rattle.laws.proofs.Folds.{fold-part}
 use Rattle.laws.proofs.Finds.{Found, none, at, found, Some, some}
-use Rattle.refusals.specs.Causes.{Cause, _when_, refuse, First, Decides, nil, cons}
+use Rattle.refusals.specs.Causes.{Cause, _when_, refuse, Ground, First, here, later, Decides, nil, cons}
 use Rattle.refusals.specs.declared.Refusal.{Refusal}
 use Rattle.refusals.proofs.Causes as causes
 use Rattle.open_frame.specs.Open.{headListed}
@@ -33,17 +33,19 @@ use Rattle.port_parts.specs.declared.Request.{Request}
 use Rattle.port_rules.specs.Rules.{rules}
 use Rattle.port_rules.specs.Kept.{Kept, Free, SameKey}
 use Rattle.port_rules.proofs.Facts.{range-says, rules-say}
-use Rattle.port_rows.specs.Finds.{noRoom, roomStep, roomOf, hasKey, keyOf}
+use Rattle.port_rows.specs.Finds.{noRoom, roomStep, roomOf, isOf, hasKey, keyOf}
 use Rattle.port_rows.specs.Calls.{phyAt, isJoined, isCancelled, closedPhy, marked, sent, opening, closing, idle, failedWord, timerAfter, bare, submitted, cancelled, chosen, connected, failed, framed, closedDone, disabledDone, submitCauses, cancelCauses, chooseCauses, phyCauses, failedCauses, setupOf, submitOf, cancelOf, chooseOf, openedOf, openFailedOf, frameStatusOf, closedOf, enableOf, disableOf}
-use Rattle.port_rows.specs.Answers.{told, later, withPhy, fresh, unconnectedPhy, unchanged, refusedBy}
+use Rattle.port_rows.specs.Answers.{told, withPhy, fresh, unconnectedPhy, unchanged, refusedBy}
+use Rattle.port_rows.specs.Answers as answers
 use Rattle.port_rows.specs.declared.Done.{Done}
 use Rattle.port_rows.specs.declared.Word.{Word}
 use Rattle.port_rows.specs.declared.Word.the-variants.{Taken, Submitted, Send, Close, StopArb, Retried, Waiting, CancelAcknowledged, Ended, NexusLoss, ConnectionLost, Status, Refused}
 use Rattle.port_rows.specs.declared.Key.{Key}
+use Rattle.port_rows.specs.declared.Withdrawn.{Withdrawn}
 use Rattle.port_rows.specs.declared.Room.{Room}
 use Rattle.port.specs.History.{State, Call, doneOf, shortOf, steppedBy, isRefused, setup, submit, cancel, choose, opened, openFailed, frameStatus, closed, enable, disable}
 use Rattle.port.specs.Calls.{steppedOf, short, onPhy, pickAt}
-use Rattle.port.specs.Grounds.{Present, Full, HasKey, Absent, FrameOut, Joined, phyGrounds, groundsOf}
+use Rattle.port.specs.Grounds.{Broken, Present, Full, OfKey, HasKey, Absent, Cancelled, FrameOut, Joined, phyGrounds, cancelGrounds, groundsOf}
 
 -- ---- what the scans find
 
@@ -81,10 +83,11 @@ present-says l h =
     part : roomOf l h .same ≡ foldTo blank (λ (a : Bool) r i. a || taken r) false l 32
     part = fold-part blank (λ a r i. roomStep a r i h) (λ (a : Bool) r i. a || taken r) (λ (a : Room). a .same) (λ a r i. refl) noRoom l 32
 
+pub of-says : (h : Head) (x : Key) → Says (isOf h x) (OfKey h x)
+of-says h x = both (equal (h .destination) (x .destination)) (both (equal (h .protocol) (x .protocol)) (equal (h .tag) (x .tag)))
+
 pub key-says : (r : Request) (x : Key) → Says (hasKey r x) (HasKey r x)
-key-says r x =
-    both (unless (equal (r .stage) 0))
-    (both (equal (r .head .destination) (x .destination)) (both (equal (r .head .protocol) (x .protocol)) (equal (r .head .tag) (x .tag))))
+key-says r x = both (unless (equal (r .stage) 0)) (of-says (r .head) x)
 
 -- cancel finds the first request with the key
 pub key-found : (l : List Request) (x : Key) → Found blank (λ r. hasKey r x) l 32 32 (keyOf l x)
@@ -99,6 +102,42 @@ absent-says l x = by (key-found l x)
       λ t. absurd (let over = leb-true 32 (keyOf l x) t in omega arith),
       λ gone. absurd (gone (keyOf l x) (omega arith) (key-says (getD l (keyOf l x) blank) x .0 p)),
     )
+
+-- two heads with one key
+pub same-key : (g h : Head) (x : Key) → OfKey g x → OfKey h x → SameKey g h
+same-key g h x a b = (a .0 ∙ sym (b .0), (a .1 .0 ∙ sym (b .1 .0), a .1 .1 ∙ sym (b .1 .1)))
+
+-- no two requests share a key
+pub one-of-key : (p : Port) (l : List Request) (x : Key) → Kept p l → (i j : ℕ) → i < 32 → j < 32 → HasKey (getD l i blank) x → HasKey (getD l j blank) x → i ≡ j
+one-of-key p l x kept i j m n a b = by (below-or-not i j) (below-or-not j i)
+  where
+    by : (i < j) ⊎ (j ≤ i) → (j < i) ⊎ (i ≤ j) → i ≡ j
+    by (inl h) u = absurd (kept .apart i j h n (a .0) (b .0) .keys (same-key (getD l i blank .head) (getD l j blank .head) x (a .1) (b .1)))
+    by (inr h) (inl k) = absurd (kept .apart j i k m (b .0) (a .0) .keys (same-key (getD l j blank .head) (getD l i blank .head) x (b .1) (a .1)))
+    by (inr h) (inr k) = omega (arith, h, k)
+
+-- so the first request with a key is cancelled exactly if one that has it is
+module _ (l : List Request) (x : Key) where
+  abbrev FirstCancelled : Type 0
+  FirstCancelled = getD l (keyOf l x) blank .cancelled ≡ 1
+
+  cancelled-one : Absent l x ⊎ FirstCancelled → Absent l x ⊎ Cancelled l x
+  cancelled-one (inl gone) = inl gone
+  cancelled-one (inr already) = by (key-found l x)
+    where
+      by : Found blank (λ r. hasKey r x) l 32 32 (keyOf l x) → Absent l x ⊎ Cancelled l x
+      by (none e off) = inl (λ i k has. never (sym (off i k) ∙ key-says (getD l i blank) x .1 has))
+      by (at m t off) = inr (record { slot = keyOf l x; below = m; has = key-says (getD l (keyOf l x) blank) x .0 t; already = already })
+
+  cancelled-first : (p : Port) → Kept p l → Absent l x ⊎ Cancelled l x → Absent l x ⊎ FirstCancelled
+  cancelled-first p kept (inl gone) = inl gone
+  cancelled-first p kept (inr c) = by (key-found l x)
+    where
+      by : Found blank (λ r. hasKey r x) l 32 32 (keyOf l x) → Absent l x ⊎ FirstCancelled
+      by (none e off) = absurd (never (sym (off (c .slot) (c .below)) ∙ key-says (getD l (c .slot) blank) x .1 (c .has)))
+      by (at m t off) =
+          let same : keyOf l x ≡ c .slot = one-of-key p l x kept (keyOf l x) (c .slot) m (c .below) (key-says (getD l (keyOf l x) blank) x .0 t) (c .has) in
+          inr (ap (λ (n : ℕ). getD l n blank .cancelled) same ∙ c .already)
 
 -- a number is that of a reason exactly if it is below their count
 abbrev AllListed : List Reason → Type 0
@@ -157,26 +196,58 @@ causesOf (enable x) s =
 causesOf (disable x) s =
     (Refusal.Length when not (eqb (length (s .list)) 32)) ∷ phyCauses (s .port) (rules (s .port) (s .list)) (x .phy) (x .now) (isDisabled (phyAt (s .port) (x .phy)))
 
-pub decides : (c : Call) (s : State) → Decides (causesOf c s) (groundsOf c s)
+-- grounds that the tests decide, one by one, and of which the same comes first as of the call's own
+record Tested (c : Call) (s : State) : Type 1 where
+  grounds : List Ground
+  decided : Decides (causesOf c s) grounds
+  same : (k : Refusal) → First grounds k ↔ First (groundsOf c s) k
+
+-- mostly they are the call's own
+own : {c : Call} {s : State} → Decides (causesOf c s) (groundsOf c s) → Tested c s
+own {c} {s} d = record { grounds = groundsOf c s; decided = d; same = λ k. (λ f. f, λ f. f) }
+
+-- a lent state keeps its rules or breaks them
+kept-unless : (s : State) → (Broken s → ⊥) → Kept (s .port) (s .list)
+kept-unless s off = by (rules (s .port) (s .list)) refl
+  where
+    by : (t : Bool) → rules (s .port) (s .list) ≡ t → Kept (s .port) (s .list)
+    by true e = rules-say (s .port) (s .list) .0 e
+    by false e = absurd (off (λ kept. never (sym e ∙ rules-say (s .port) (s .list) .1 kept)))
+
+-- of cancel the last ground is reached only where the rules are kept
+recast : (s : State) (x : Withdrawn) {P Q : Type 0} → (Kept (s .port) (s .list) → P → Q) → {k : Refusal} → First (cancelGrounds s x P) k → First (cancelGrounds s x Q) k
+recast s x so (here h) = here h
+recast s x so (later a (here h)) = later a (here h)
+recast s x so (later a (later b (here h))) = later a (later b (here h))
+recast s x so (later a (later b (later c (here h)))) = later a (later b (later c (here h)))
+recast s x so (later a (later b (later c (later d (here h))))) = later a (later b (later c (later d (here (so (kept-unless s c) h)))))
+
+tested : (c : Call) (s : State) → Tested c s
 unfolding causesOf
-decides (setup count loss) s = cons (sized s) (cons (unless (range-says count loss)) nil)
-decides (submit x) s =
-    cons (sized s)
+tested (setup count loss) s = own (cons (sized s) (cons (unless (range-says count loss)) nil))
+tested (submit x) s =
+    own
+    (cons (sized s)
     (cons (unless (itself (headListed (x .head))))
-    (cons (broken s) (cons (less (x .now) (s .port .last)) (cons (present-says (s .list) (x .head)) (cons (full-says (s .list) (x .head)) nil)))))
-decides (cancel x) s =
-    cons (sized s)
-    (cons (unless (less (x .key .protocol) 3))
-    (cons (broken s)
-    (cons (less (x .now) (s .port .last))
-    (cons (either (absent-says (s .list) (x .key)) (equal (getD (s .list) (keyOf (s .list) (x .key)) blank .cancelled) 1)) nil))))
-decides (choose x) s = cons (sized s) (cons (broken s) (cons (less (x .now) (s .port .last)) nil))
-decides (opened x) s = cons (sized s) (phy-decides s (x .phy) (x .now) (unless (equal (phyAt (s .port) (x .phy) .stage) 2)))
-decides (openFailed x) s = cons (sized s) (cons (unless (reason-says (x .why))) (phy-decides s (x .phy) (x .now) (unless (equal (phyAt (s .port) (x .phy) .stage) 2))))
-decides (frameStatus x) s = cons (sized s) (phy-decides s (x .phy) (x .now) (unless (out-says (phyAt (s .port) (x .phy)))))
-decides (closed x) s = cons (sized s) (phy-decides s (x .phy) (x .now) (unless (joined-says (phyAt (s .port) (x .phy)))))
-decides (enable x) s = cons (sized s) (phy-decides s (x .phy) (x .now) (unless (equal (phyAt (s .port) (x .phy) .stage) 0)))
-decides (disable x) s = cons (sized s) (phy-decides s (x .phy) (x .now) (equal (phyAt (s .port) (x .phy) .stage) 0))
+    (cons (broken s) (cons (less (x .now) (s .port .last)) (cons (present-says (s .list) (x .head)) (cons (full-says (s .list) (x .head)) nil))))))
+tested (cancel x) s =
+    record {
+      grounds = cancelGrounds s x (Absent (s .list) (x .key) ⊎ FirstCancelled (s .list) (x .key));
+      decided =
+          cons (sized s)
+          (cons (unless (less (x .key .protocol) 3))
+          (cons (broken s)
+          (cons (less (x .now) (s .port .last))
+          (cons (either (absent-says (s .list) (x .key)) (equal (getD (s .list) (keyOf (s .list) (x .key)) blank .cancelled) 1)) nil))));
+      same = λ k. (recast s x (λ kept. cancelled-one (s .list) (x .key)), recast s x (cancelled-first (s .list) (x .key) (s .port)));
+    }
+tested (choose x) s = own (cons (sized s) (cons (broken s) (cons (less (x .now) (s .port .last)) nil)))
+tested (opened x) s = own (cons (sized s) (phy-decides s (x .phy) (x .now) (unless (equal (phyAt (s .port) (x .phy) .stage) 2))))
+tested (openFailed x) s = own (cons (sized s) (cons (unless (reason-says (x .why))) (phy-decides s (x .phy) (x .now) (unless (equal (phyAt (s .port) (x .phy) .stage) 2)))))
+tested (frameStatus x) s = own (cons (sized s) (phy-decides s (x .phy) (x .now) (unless (out-says (phyAt (s .port) (x .phy))))))
+tested (closed x) s = own (cons (sized s) (phy-decides s (x .phy) (x .now) (unless (joined-says (phyAt (s .port) (x .phy))))))
+tested (enable x) s = own (cons (sized s) (phy-decides s (x .phy) (x .now) (unless (equal (phyAt (s .port) (x .phy) .stage) 0))))
+tested (disable x) s = own (cons (sized s) (phy-decides s (x .phy) (x .now) (equal (phyAt (s .port) (x .phy) .stage) 0)))
 
 -- ---- the answer is the first cause's refusal
 
@@ -184,7 +255,7 @@ decides (disable x) s = cons (sized s) (phy-decides s (x .phy) (x .now) (equal (
 unfoldable pub takenOf : Call → State → Done
 takenOf (setup count loss) s = bare (fresh count loss) Taken true
 takenOf (submit x) s =
-    told (later (s .port) (x .now)) Submitted (roomOf (s .list) (x .head) .free) 8 (submitted (roomOf (s .list) (x .head)) x) (submitted (roomOf (s .list) (x .head)) x) unchanged
+    told (answers.later (s .port) (x .now)) Submitted (roomOf (s .list) (x .head) .free) 8 (submitted (roomOf (s .list) (x .head)) x) (submitted (roomOf (s .list) (x .head)) x) unchanged
 takenOf (cancel x) s = cancelled (s .port) (getD (s .list) (keyOf (s .list) (x .key)) blank) (keyOf (s .list) (x .key)) (x .now)
 takenOf (choose x) s = chosen (s .port) (getD (s .list) (pickAt (s .list) (s .port) (x .now) .slot) blank) (pickAt (s .list) (s .port) (x .now)) (x .now)
 takenOf (opened x) s = connected (s .port) (phyAt (s .port) (x .phy)) (onPhy (s .list) (s .port) (x .phy)) x
@@ -272,7 +343,7 @@ unfolding cancelled
 cancelled-word p r s now = by (isWaiting r) (isOpening (phyAt p (r .phy)))
   where
     by : (t u : Bool)
-        → isRefused ((cond t (told (later p now) CancelAcknowledged s 8 r blank unchanged) (told (withPhy p (r .phy) (closedPhy (phyAt p (r .phy))) now) (cond u StopArb Close) s (r .phy) r (marked r 1 (r .closed)) unchanged)) .answer .word) ≡ false
+        → isRefused ((cond t (told (answers.later p now) CancelAcknowledged s 8 r blank unchanged) (told (withPhy p (r .phy) (closedPhy (phyAt p (r .phy))) now) (cond u StopArb Close) s (r .phy) r (marked r 1 (r .closed)) unchanged)) .answer .word) ≡ false
     by true u = refl
     by false true = refl
     by false false = refl
@@ -321,7 +392,8 @@ one j k e = cc
 
 -- a call is refused with k exactly if k is the first ground that holds
 pub refused-exactly : (c : Call) (s : State) (k : Refusal) → (steppedBy c s .answer .word ≡ Refused k) ↔ First (groundsOf c s) k
-refused-exactly c s k = (
-  λ e. causes.only Refused (goesOn c s) one (apart c s) (decides c s) k (sym (word-is c s) ∙ e),
-  λ f. word-is c s ∙ causes.if-first Refused (goesOn c s) one (apart c s) (decides c s) k f,
-)
+refused-exactly c s k =
+    let t = tested c s in (
+      λ e. t .same k .0 (causes.only Refused (goesOn c s) one (apart c s) (t .decided) k (sym (word-is c s) ∙ e)),
+      λ f. word-is c s ∙ causes.if-first Refused (goesOn c s) one (apart c s) (t .decided) k (t .same k .1 f),
+    )

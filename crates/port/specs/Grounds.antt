@@ -15,9 +15,9 @@ use Rattle.port_parts.specs.declared.Phy.{Phy}
 use Rattle.port_parts.specs.declared.Port.{Port}
 use Rattle.port_parts.specs.declared.Request.{Request}
 use Rattle.port_rules.specs.Kept.{InRange, Kept, Free, SameKey}
-use Rattle.port_rows.specs.Finds.{keyOf}
 use Rattle.port_rows.specs.Calls.{phyAt}
 use Rattle.port_rows.specs.declared.Key.{Key}
+use Rattle.port_rows.specs.declared.Withdrawn.{Withdrawn}
 use Rattle.port.specs.History.{State, Call, setup, submit, cancel, choose, opened, openFailed, frameStatus, closed, enable, disable}
 
 -- a lent state breaks its rules
@@ -39,12 +39,22 @@ pub record Present (l : List Request) (h : Head) : Type 0 where
 abbrev pub Full : List Request → Type 0
 Full l = (i : ℕ) → i < 32 → Free (getD l i blank) → ⊥
 
+abbrev pub OfKey : Head → Key → Type 0
+OfKey h x = (h .destination ≡ x .destination) × ((h .protocol ≡ x .protocol) × (h .tag ≡ x .tag))
+
 abbrev pub HasKey : Request → Key → Type 0
-HasKey r x = (Free r → ⊥) × ((r .head .destination ≡ x .destination) × ((r .head .protocol ≡ x .protocol) × (r .head .tag ≡ x .tag)))
+HasKey r x = (Free r → ⊥) × OfKey (r .head) x
 
 -- no request has the key
 abbrev pub Absent : List Request → Key → Type 0
 Absent l x = (i : ℕ) → i < 32 → HasKey (getD l i blank) x → ⊥
+
+-- a request that has the key is cancelled already
+pub record Cancelled (l : List Request) (x : Key) : Type 0 where
+  pub slot : ℕ
+  pub below : slot < 32
+  pub has : HasKey (getD l slot blank) x
+  pub already : getD l slot blank .cancelled ≡ 1
 
 -- with a frame out; connected or closing
 abbrev pub FrameOut : Phy → Type 0
@@ -57,6 +67,15 @@ abbrev pub phyGrounds : State → ℕ → ℕ → Type 0 → List Ground
 phyGrounds s k now unfit =
     (Refusal.Rules if Broken s) ∷ (Refusal.Phy if (k < s .port .count → ⊥)) ∷ (Refusal.Past if (now < s .port .last)) ∷ (Refusal.Unfit if unfit) ∷ []
 
+abbrev pub cancelGrounds : State → Withdrawn → Type 0 → List Ground
+cancelGrounds s x unfit =
+    (Refusal.Length if Wrong s)
+    ∷ (Refusal.Unlisted if (x .key .protocol < 3 → ⊥))
+    ∷ (Refusal.Rules if Broken s)
+    ∷ (Refusal.Past if (x .now < s .port .last))
+    ∷ (Refusal.Unfit if unfit)
+    ∷ []
+
 abbrev pub groundsOf : Call → State → List Ground
 groundsOf (setup count loss) s = (Refusal.Length if Wrong s) ∷ (Refusal.Rules if (InRange count loss → ⊥)) ∷ []
 groundsOf (submit x) s =
@@ -67,13 +86,7 @@ groundsOf (submit x) s =
     ∷ (Refusal.Present if Present (s .list) (x .head))
     ∷ (Refusal.Full if Full (s .list))
     ∷ []
-groundsOf (cancel x) s =
-    (Refusal.Length if Wrong s)
-    ∷ (Refusal.Unlisted if (x .key .protocol < 3 → ⊥))
-    ∷ (Refusal.Rules if Broken s)
-    ∷ (Refusal.Past if (x .now < s .port .last))
-    ∷ (Refusal.Unfit if (Absent (s .list) (x .key) ⊎ (getD (s .list) (keyOf (s .list) (x .key)) blank .cancelled ≡ 1)))
-    ∷ []
+groundsOf (cancel x) s = cancelGrounds s x (Absent (s .list) (x .key) ⊎ Cancelled (s .list) (x .key))
 groundsOf (choose x) s = (Refusal.Length if Wrong s) ∷ (Refusal.Rules if Broken s) ∷ (Refusal.Past if (x .now < s .port .last)) ∷ []
 groundsOf (opened x) s = (Refusal.Length if Wrong s) ∷ phyGrounds s (x .phy) (x .now) (phyAt (s .port) (x .phy) .stage ≡ 2 → ⊥)
 groundsOf (openFailed x) s =

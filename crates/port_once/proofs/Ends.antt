@@ -31,7 +31,7 @@ use Rattle.port_rows.specs.declared.Word.the-variants.{Taken, Waiting, CancelAc
 use Rattle.port.specs.Calls.{leftOf, onPhy}
 use Rattle.port.specs.History.{State, Call, cancel, disable, doneOf, isRefused, isLast, leave, Entry}
 use Rattle.port.specs.declared.Stepped.{Stepped}
-use Rattle.port.proofs.Refusals.{key-says, key-found}
+use Rattle.port.proofs.Refusals.{key-says, key-found, one-of-key}
 use Rattle.port.proofs.Begins.{left-here}
 use Rattle.port_kept.proofs.Holds.{present-at, in-progress, its-phy, its-name, names-none, number-low}
 use Rattle.port_kept.proofs.Leaves.{by-step}
@@ -39,7 +39,7 @@ use Rattle.port_once.specs.Turns.{keyed, Lawful}
 use Rattle.port_once.specs.Runs.{Run, now}
 use Rattle.port_once.specs.Ends.{LastOn, Ends, at-once, second}
 use Rattle.port_once.proofs.Steps.{answers, lawful-after}
-use Rattle.port_once.proofs.Histories.{keyed-of, one-of-key}
+use Rattle.port_once.proofs.Histories.{keyed-of}
 use Rattle.port_once.proofs.Leaving.{tells}
 
 last-on : (s : State) (c : Call) (d : Done) (slot : ℕ) (head : Head) → length (s .list) ≡ 32 → doneOf c s ≡ d → isLast (d .answer .word) ≡ true → d .answer .slot ≡ slot → d .answer .frame .head ≡ head → LastOn s c slot head

@@ -23,9 +23,9 @@ use Rattle.port_rows.specs.declared.Answer.{Answer}
 use Rattle.port_rows.specs.declared.Key.{Key}
 use Rattle.port_rows.specs.declared.Word.{Word}
 use Rattle.port_rows.specs.declared.Word.the-variants.{Taken, Submitted, Nothing, Send, Open, Close, StopArb, Retried, Waiting, CancelAcknowledged, Ended, NexusLoss, ConnectionLost, Status, Refused}
-use Rattle.port.specs.Grounds.{HasKey, Absent}
+use Rattle.port.specs.Grounds.{OfKey, HasKey, Absent}
 use Rattle.port.specs.History.{Call, Entry, isLast, isRefused}
-use Rattle.port_kept.proofs.Enters.{beside}
+use Rattle.port.proofs.Refusals.{of-says, same-key, one-of-key}
 use Rattle.port_once.specs.Standing.{isSetup, isSubmitted, accepts, ends, speaks, submits, lastWords, Standing, gone, there, wrong, sameHead, agrees, accepted, ended, spoken, after, standing}
 use Rattle.port_once.specs.Turns.{keyed, Stays, OthersStay, Comes, Leaves, Rests, Turns, Holds}
 
@@ -59,18 +59,8 @@ first-is-not-last w e = by (isLast w) refl
     by true l = absurd (never (sym (last-is-not-first w l) ∙ e))
     by false l = refl
 
-abbrev pub OfKey : Head → Key → Type 0
-OfKey h x = (h .destination ≡ x .destination) × ((h .protocol ≡ x .protocol) × (h .tag ≡ x .tag))
-
-pub of-says : (h : Head) (x : Key) → Says (isOf h x) (OfKey h x)
-of-says h x = both (equal (h .destination) (x .destination)) (both (equal (h .protocol) (x .protocol)) (equal (h .tag) (x .tag)))
-
 pub keyed-of : {g h : Head} → g ≡ h → OfKey g (keyed h)
 keyed-of e = (ap (λ (h : Head). h .destination) e, (ap (λ (h : Head). h .protocol) e, ap (λ (h : Head). h .tag) e))
-
--- two heads with one key
-pub keyed-as : (g h : Head) (x : Key) → OfKey g x → OfKey h x → OfKey g (keyed h)
-keyed-as g h x a b = (a .0 ∙ sym (b .0), (a .1 .0 ∙ sym (b .1 .0), a .1 .1 ∙ sym (b .1 .1)))
 
 same-head : (h : Head) → sameHead h h ≡ true
 same-head h =
@@ -108,14 +98,6 @@ module _ (x : Key) (c : Call) (a : Answer) (v : Standing) where
 
 -- ---- the list holds what the history says
 
--- no two requests share a key
-pub one-of-key : (p : Port) (l : List Request) (x : Key) → Kept p l → (i j : ℕ) → i < 32 → j < 32 → HasKey (getD l i blank) x → HasKey (getD l j blank) x → i ≡ j
-one-of-key p l x kept i j m n a b = by (same-or-not j i)
-  where
-    by : (j ≡ i) ⊎ (j ≡ i → ⊥) → i ≡ j
-    by (inl same) = sym same
-    by (inr other) = absurd (beside p l kept i m (a .0) j n other (b .0) .keys (keyed-as (getD l i blank .head) (getD l j blank .head) x (a .1) (b .1)))
-
 -- a record that stays has a key exactly if it had it
 pub had : (x : Key) {a b : Request} → Stays a b → HasKey b x → HasKey a x
 had x {a} {b} s k = by (eqb (a .stage) 0) refl
@@ -146,7 +128,7 @@ module _ (p : Port) (l m : List Request) (a : Answer) (kept : Kept p l) (x : Key
 
   came : Comes l m a → isOf (a .frame .head) x ≡ true → (v : Standing) → Holds x v l → Holds x (accepted a v) m
   came c k gone h = (c .slot, ((c .present, subst (λ (g : Head). OfKey g x) (sym (c .head)) (of-says (a .frame .head) x .0 k)), c .head))
-  came c k (there slot head) h = c .absent slot (h .0) (h .1 .0 .0, keyed-as (getD l slot blank .head) (a .frame .head) x (h .1 .0 .1) (of-says (a .frame .head) x .0 k))
+  came c k (there slot head) h = c .absent slot (h .0) (h .1 .0 .0, same-key (getD l slot blank .head) (a .frame .head) x (h .1 .0 .1) (of-says (a .frame .head) x .0 k))
   came c k wrong h = h
 
   came-other : Comes l m a → isOf (a .frame .head) x ≡ false → (v : Standing) → Holds x v l → Holds x v m

@@ -14,11 +14,12 @@ use Rattle.port_rows.specs.declared.Answer.{Answer}
 use Rattle.port_rows.specs.declared.Key.{Key}
 use Rattle.port.specs.Grounds.{HasKey, Absent}
 use Rattle.port.specs.History.{State, Call, steppedBy, leave, run, Entry, entriesOf, history}
+use Rattle.port.proofs.Refusals.{one-of-key}
 use Rattle.port_once.specs.Standing.{isSetup, isSubmitted, accepts, ends, speaks, submits, lastWords, Standing, gone, there, wrong, agrees, accepted, ended, spoken, standing, silent}
 use Rattle.port_once.specs.Turns.{keyed, Holds, Lawful}
 use Rattle.port_once.specs.Runs.{Run, now, past}
 use Rattle.port_once.proofs.Steps.{first, by-first, first-lawful, first-zeros}
-use Rattle.port_once.proofs.Histories.{words, keyed-of, one-of-key, one, there-not-wrong, gone-not-wrong, counted}
+use Rattle.port_once.proofs.Histories.{words, keyed-of, one, there-not-wrong, gone-not-wrong, counted}
 use Rattle.port_once.proofs.Turns.{comes-when}
 use Rattle.port_once.proofs.Runs.{Tells, tells-anew, tells-after, tells-run}
 

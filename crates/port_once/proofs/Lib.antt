@@ -4,6 +4,7 @@ pub mod Cores
 pub mod Steps
 pub mod Histories
 pub mod Turns
+pub mod Givens
 pub mod Runs
 pub mod Leaving
 pub mod Ends

@@ -26,9 +26,10 @@ use Rattle.port_rows.specs.declared.Word.{Word}
 use Rattle.port_rows.specs.declared.Word.the-variants.{Taken, Submitted, Nothing, Send, Open, Close, StopArb, Retried, Waiting, CancelAcknowledged, Ended, NexusLoss, ConnectionLost, Status, Refused}
 use Rattle.port_rows.specs.Records.{spread}
 use Rattle.port.specs.Calls.{leftOf}
-use Rattle.port.specs.Grounds.{HasKey}
+use Rattle.port.specs.Grounds.{OfKey, HasKey}
 use Rattle.port.specs.History.{State, Call, doneOf, steppedBy, isRefused, isLast, leave, run, Entry, entriesOf, history}
 use Rattle.port.proofs.Begins.{left-here, left-there}
+use Rattle.port.proofs.Refusals.{of-says, same-key, one-of-key}
 use Rattle.port_kept.proofs.Leaves.{taken-entry, by-step}
 use Rattle.port_kept.proofs.Spreads.{by-spread}
 use Rattle.port_once.specs.Standing.{isSetup, isSubmitted, accepts, speaks}
@@ -38,7 +39,7 @@ use Rattle.port_once.specs.Marks.{isCancel, isAcknowledged, isGoing, isC
 use Rattle.port_once.proofs.Cores.{turned}
 use Rattle.port_once.proofs.Marks.{Marks, marked-so}
 use Rattle.port_once.proofs.Steps.{first, first-zeros, setup-zeros}
-use Rattle.port_once.proofs.Histories.{words, OfKey, of-says, keyed-of, keyed-as, one-of-key, had}
+use Rattle.port_once.proofs.Histories.{words, keyed-of, had}
 use Rattle.port_once.proofs.Turns.{same-answer, goes-on, taken-lawful, plain-by, leaves-when, rests-else}
 use Rattle.port_once.proofs.Runs.{Tells, tells-after}
 use Rattle.port_once.proofs.Leaving.{first-tells, tells}
@@ -136,7 +137,7 @@ module _ (k : Mark) (p : Port) (l : List Request) (c : Call) (d : Done) (len : l
         where
           absent-of : (t : Bool) → isOf (a .frame .head) x ≡ t → HasKey (getD l i blank) x → t ≡ false
           absent-of true is was =
-              absurd (come .absent i below (was .0, keyed-as (getD l i blank .head) (a .frame .head) x (was .1) (of-says (a .frame .head) x .0 is)))
+              absurd (come .absent i below (was .0, same-key (getD l i blank .head) (a .frame .head) x (was .1) (of-says (a .frame .head) x .0 is)))
           absent-of false is was = refl
       by (inr (inl go)) =
           let was = had x (go .others i below away) has in

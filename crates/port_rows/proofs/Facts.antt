@@ -60,6 +60,12 @@ module _ (p : Port) (v : Room) (x : Wish) (listed : headListed (x .head) ≡ tru
   unfolding submitOf
   submitted absent free = rw (listed, due, absent, free)
 
+  -- 01 PORT.11
+  -- the record that is stored, and the answer, have the head that was given
+  stored : v .same ≡ false → leb 32 (v .free) ≡ false → (submitOf p true v x .entry .head ≡ x .head) × (submitOf p true v x .answer .frame .head ≡ x .head)
+  unfolding submitOf
+  stored absent free = (rw (listed, due, absent, free), rw (listed, due, absent, free))
+
 -- Opened, of a phy of the port at a time that isn't past, in a state that keeps its rules
 module _ (p : Port) (r : Request) (x : Confirmed) (own : ltb (x .phy) (p .count) ≡ true) (due : ltb (x .now) (p .last) ≡ false) where
   -- 01 PORT.17: of an opening phy it is taken, and the frame goes

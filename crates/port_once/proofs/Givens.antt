@@ -1,0 +1,56 @@
+-- Submit stores, and cancel hits, what the call was given: submit's record has its head, and the request that cancel finds has its key.
+-- Assumes nothing.
+use Prim.Native.Nat.{ℕ, _<_}
+use mathlib.Core.Path.{_≡_, refl}
+use mathlib.Core.Bool.{true, false, not}
+use mathlib.Core.List.{List}
+use native.Mathlib.Omega.{arith}
+use lib.Dec.{leb}
+use lib.ListN.{getD}
+use borrow.Author.Tests.{leb-false}
+use Rattle.laws.proofs.Bools.{nor, and-right}
+use Rattle.laws.proofs.Finds.{Found, none, at}
+use Rattle.refusals.proofs.Causes.{NoneGiven}
+use Rattle.port_parts.specs.Parts.{blank, isFree}
+use Rattle.port_parts.specs.declared.Request.{Request}
+use Rattle.port_rows.specs.Calls.{isCancelled}
+use Rattle.port_rows.specs.Finds.{isOf, hasKey, keyOf}
+use Rattle.port_rows.specs.declared.Done.{Done}
+use Rattle.port_rows.specs.declared.Key.{Key}
+use Rattle.port_rows.specs.declared.Wish.{Wish}
+use Rattle.port_rows.specs.declared.Withdrawn.{Withdrawn}
+use Rattle.port_rows.specs.declared.Word.the-variants.{Submitted}
+use Rattle.port.specs.History.{State, submit, cancel, steppedBy, isRefused}
+use Rattle.port.specs.declared.Stepped.{Stepped}
+use Rattle.port.proofs.Refusals.{key-found, causesOf, takenOf, behind}
+use Rattle.port_kept.proofs.Leaves.{by-taken, when-taken}
+use Rattle.port_kept.proofs.Ways.{by-cancelled}
+
+-- a submit that is taken answers Submitted, with the head that it was given
+pub submits-given : (x : Wish) (s : State) → isRefused (steppedBy (submit x) s .answer .word) ≡ false → (steppedBy (submit x) s .answer .word ≡ Submitted) × (steppedBy (submit x) s .answer .frame .head ≡ x .head)
+unfolding takenOf
+submits-given x s =
+    when-taken (submit x) s (λ (r : Stepped) (m : List Request). (r .answer .word ≡ Submitted) × (r .answer .frame .head ≡ x .head))
+    (λ size. by-taken (submit x) s (λ (d : Done). (d .answer .word ≡ Submitted) × (d .answer .frame .head ≡ x .head)) (λ passed. (refl, refl)))
+
+-- what a scan for a key found has it
+found-of : (l : List Request) (x : Key) (n : ℕ) → Found blank (λ r. hasKey r x) l 32 32 n → n < 32 → isOf (getD l n blank .head) x ≡ true
+found-of l x n (none e off) h = absurd (omega arith)
+found-of l x n (at m t off) h = and-right (not (isFree (getD l n blank))) (isOf (getD l n blank .head) x) t
+
+-- a cancel that is taken answers about a request with the key that it was given
+pub cancels-given : (x : Withdrawn) (s : State) → isRefused (steppedBy (cancel x) s .answer .word) ≡ false → isOf (steppedBy (cancel x) s .answer .frame .head) (x .key) ≡ true
+unfolding causesOf takenOf
+cancels-given x s =
+    when-taken (cancel x) s (λ (r : Stepped) (m : List Request). isOf (r .answer .frame .head) (x .key) ≡ true) (λ size. by-taken (cancel x) s (λ (d : Done). isOf (d .answer .frame .head) (x .key) ≡ true) has)
+  where
+    l : List Request
+    l = s .list
+
+    i : ℕ
+    i = keyOf l (x .key)
+
+    has : NoneGiven (behind (causesOf (cancel x) s)) → isOf (takenOf (cancel x) s .answer .frame .head) (x .key) ≡ true
+    has passed =
+        let named = found-of l (x .key) i (key-found l (x .key)) (leb-false 32 i (nor (leb 32 i) (isCancelled (getD l i blank)) (passed .1 .1 .1 .0) .0)) in
+        by-cancelled (λ (d : Done). isOf (d .answer .frame .head) (x .key) ≡ true) (s .port) (getD l i blank) i (x .now) (λ t. named) (λ t. named)
