@@ -189,7 +189,8 @@ use Rattle.port_core.proofs.enable_core.Kinds as port-enable-core-of
 use Rattle.port_core.proofs.enable_core.Reads as port-enable-core
 use Rattle.port_core.proofs.disable_core.Kinds as port-disable-core-of
 use Rattle.port_core.proofs.disable_core.Reads as port-disable-core
-use Rattle.port.specs.Calls.{short, shortSetup, Called, setupCall, submitCall, cancelCall, chooseCall, openedCall, openFailedCall, frameStatusCall, closedCall, enableCall, disableCall}
+use Rattle.port.specs.Calls.{short, shortSetup, setupCall, submitCall, cancelCall, chooseCall, openedCall, openFailedCall, frameStatusCall, closedCall, enableCall, disableCall}
+use Rattle.port_rows.specs.Answers.{noPort}
 use Rattle.port.proofs.setup as call-setup
 use Rattle.port.proofs.submit as call-submit
 use Rattle.port.proofs.cancel as call-cancel
@@ -229,6 +230,7 @@ use Rattle.bench_ports.proofs.port_closed as port-closed
 use Rattle.bench_ports.proofs.port_enable as port-enable
 use Rattle.bench_ports.proofs.port_disable as port-disable
 use Rattle.claims.proofs.Walked.{OneEnd}
+use Rattle.claims.proofs.Ports.{ports}
 use Rattle.bench_ports.specs.Face.{Told}
 
 -- a function of n lifetimes, parameters ps and result r has one outcome: its answer, and what `left` reads of the lent at exit
@@ -498,16 +500,16 @@ unique = record {
   port-closed-core = λ κs a x y s t p q. (p ∙ sym q, refl);
   port-enable-core = λ κs a x y s t p q. (p ∙ sym q, refl);
   port-disable-core = λ κs a x y s t p q. (p ∙ sym q, refl);
-  call-setup = λ w κs a g. ((λ r e. Called (now (a .0)) (setupCall (now (a .0)) (a .1 .0) (a .1 .1 .0)) (shortSetup (a .1 .0)) r (now (e .0))), (λ r. refl), λ x y s t p q. (p .0 ∙ sym (q .0), p .1 ∙ sym (q .1)));
-  call-submit = λ w κs a g. ((λ r e. Called (now (a .0)) (submitCall (now (a .0)) (a .1 .0) (a .1 .1 .0)) (short (a .1 .0)) r (now (e .0))), (λ r. refl), λ x y s t p q. (p .0 ∙ sym (q .0), p .1 ∙ sym (q .1)));
-  call-cancel = λ w κs a g. ((λ r e. Called (now (a .0)) (cancelCall (now (a .0)) (a .1 .0) (a .1 .1 .0)) (short (a .1 .0)) r (now (e .0))), (λ r. refl), λ x y s t p q. (p .0 ∙ sym (q .0), p .1 ∙ sym (q .1)));
-  call-choose = λ w κs a g. ((λ r e. Called (now (a .0)) (chooseCall (now (a .0)) (a .1 .0) (a .1 .1 .0)) (short (a .1 .0)) r (now (e .0))), (λ r. refl), λ x y s t p q. (p .0 ∙ sym (q .0), p .1 ∙ sym (q .1)));
-  call-opened = λ w κs a g. ((λ r e. Called (now (a .0)) (openedCall (now (a .0)) (a .1 .0) (a .1 .1 .0)) (short (a .1 .0)) r (now (e .0))), (λ r. refl), λ x y s t p q. (p .0 ∙ sym (q .0), p .1 ∙ sym (q .1)));
-  call-open-failed = λ w κs a g. ((λ r e. Called (now (a .0)) (openFailedCall (now (a .0)) (a .1 .0) (a .1 .1 .0)) (short (a .1 .0)) r (now (e .0))), (λ r. refl), λ x y s t p q. (p .0 ∙ sym (q .0), p .1 ∙ sym (q .1)));
-  call-frame-status = λ w κs a g. ((λ r e. Called (now (a .0)) (frameStatusCall (now (a .0)) (a .1 .0) (a .1 .1 .0)) (short (a .1 .0)) r (now (e .0))), (λ r. refl), λ x y s t p q. (p .0 ∙ sym (q .0), p .1 ∙ sym (q .1)));
-  call-closed = λ w κs a g. ((λ r e. Called (now (a .0)) (closedCall (now (a .0)) (a .1 .0) (a .1 .1 .0)) (short (a .1 .0)) r (now (e .0))), (λ r. refl), λ x y s t p q. (p .0 ∙ sym (q .0), p .1 ∙ sym (q .1)));
-  call-enable = λ w κs a g. ((λ r e. Called (now (a .0)) (enableCall (now (a .0)) (a .1 .0) (a .1 .1 .0)) (short (a .1 .0)) r (now (e .0))), (λ r. refl), λ x y s t p q. (p .0 ∙ sym (q .0), p .1 ∙ sym (q .1)));
-  call-disable = λ w κs a g. ((λ r e. Called (now (a .0)) (disableCall (now (a .0)) (a .1 .0) (a .1 .1 .0)) (short (a .1 .0)) r (now (e .0))), (λ r. refl), λ x y s t p q. (p .0 ∙ sym (q .0), p .1 ∙ sym (q .1)));
+  call-setup = (_, (ports .call-setup noPort, λ κs a x y s t p q. (p .0 ∙ sym (q .0), p .1 ∙ sym (q .1))));
+  call-submit = (_, (ports .call-submit, λ κs a x y s t p q. (p .0 ∙ sym (q .0), p .1 ∙ sym (q .1))));
+  call-cancel = (_, (ports .call-cancel, λ κs a x y s t p q. (p .0 ∙ sym (q .0), p .1 ∙ sym (q .1))));
+  call-choose = (_, (ports .call-choose, λ κs a x y s t p q. (p .0 ∙ sym (q .0), p .1 ∙ sym (q .1))));
+  call-opened = (_, (ports .call-opened, λ κs a x y s t p q. (p .0 ∙ sym (q .0), p .1 ∙ sym (q .1))));
+  call-open-failed = (_, (ports .call-open-failed, λ κs a x y s t p q. (p .0 ∙ sym (q .0), p .1 ∙ sym (q .1))));
+  call-frame-status = (_, (ports .call-frame-status, λ κs a x y s t p q. (p .0 ∙ sym (q .0), p .1 ∙ sym (q .1))));
+  call-closed = (_, (ports .call-closed, λ κs a x y s t p q. (p .0 ∙ sym (q .0), p .1 ∙ sym (q .1))));
+  call-enable = (_, (ports .call-enable, λ κs a x y s t p q. (p .0 ∙ sym (q .0), p .1 ∙ sym (q .1))));
+  call-disable = (_, (ports .call-disable, λ κs a x y s t p q. (p .0 ∙ sym (q .0), p .1 ∙ sym (q .1))));
   sas-open-read = λ κs a x y s t p q. (p .answer ∙ sym (q .answer), p .lent ∙ sym (q .lent));
   sas-open-write = λ κs a x y s t p q. (p .answer ∙ sym (q .answer), p .lent ∙ sym (q .lent));
   sas-data-read = λ κs a x y s t p q. (p .answer ∙ sym (q .answer), p .lent ∙ sym (q .lent));
@@ -517,14 +519,14 @@ unique = record {
   bench-turns = λ κs a x y s t p q. (p ∙ sym q, refl);
   bench-next = λ κs a x y s t p q. (p .answer ∙ sym (q .answer), p .bytes ∙ sym (q .bytes));
   bench-links = λ κs a x y s t p q. (p ∙ sym q, refl);
-  port-setup = λ w κs a g. ((λ r e. Told (now (a .0)) (setupCall (now (a .0)) (a .1 .0) (a .1 .1 .0)) (shortSetup (a .1 .0)) r (now (e .0))), (λ r. refl), λ x y s t p q. (p .0 ∙ sym (q .0), p .1 ∙ sym (q .1)));
-  port-submit = λ w κs a g. ((λ r e. Told (now (a .0)) (submitCall (now (a .0)) (a .1 .0) (a .1 .1 .0)) (short (a .1 .0)) r (now (e .0))), (λ r. refl), λ x y s t p q. (p .0 ∙ sym (q .0), p .1 ∙ sym (q .1)));
-  port-cancel = λ w κs a g. ((λ r e. Told (now (a .0)) (cancelCall (now (a .0)) (a .1 .0) (a .1 .1 .0)) (short (a .1 .0)) r (now (e .0))), (λ r. refl), λ x y s t p q. (p .0 ∙ sym (q .0), p .1 ∙ sym (q .1)));
-  port-choose = λ w κs a g. ((λ r e. Told (now (a .0)) (chooseCall (now (a .0)) (a .1 .0) (a .1 .1 .0)) (short (a .1 .0)) r (now (e .0))), (λ r. refl), λ x y s t p q. (p .0 ∙ sym (q .0), p .1 ∙ sym (q .1)));
-  port-opened = λ w κs a g. ((λ r e. Told (now (a .0)) (openedCall (now (a .0)) (a .1 .0) (a .1 .1 .0)) (short (a .1 .0)) r (now (e .0))), (λ r. refl), λ x y s t p q. (p .0 ∙ sym (q .0), p .1 ∙ sym (q .1)));
-  port-open-failed = λ w κs a g. ((λ r e. Told (now (a .0)) (openFailedCall (now (a .0)) (a .1 .0) (a .1 .1 .0)) (short (a .1 .0)) r (now (e .0))), (λ r. refl), λ x y s t p q. (p .0 ∙ sym (q .0), p .1 ∙ sym (q .1)));
-  port-frame-status = λ w κs a g. ((λ r e. Told (now (a .0)) (frameStatusCall (now (a .0)) (a .1 .0) (a .1 .1 .0)) (short (a .1 .0)) r (now (e .0))), (λ r. refl), λ x y s t p q. (p .0 ∙ sym (q .0), p .1 ∙ sym (q .1)));
-  port-closed = λ w κs a g. ((λ r e. Told (now (a .0)) (closedCall (now (a .0)) (a .1 .0) (a .1 .1 .0)) (short (a .1 .0)) r (now (e .0))), (λ r. refl), λ x y s t p q. (p .0 ∙ sym (q .0), p .1 ∙ sym (q .1)));
-  port-enable = λ w κs a g. ((λ r e. Told (now (a .0)) (enableCall (now (a .0)) (a .1 .0) (a .1 .1 .0)) (short (a .1 .0)) r (now (e .0))), (λ r. refl), λ x y s t p q. (p .0 ∙ sym (q .0), p .1 ∙ sym (q .1)));
-  port-disable = λ w κs a g. ((λ r e. Told (now (a .0)) (disableCall (now (a .0)) (a .1 .0) (a .1 .1 .0)) (short (a .1 .0)) r (now (e .0))), (λ r. refl), λ x y s t p q. (p .0 ∙ sym (q .0), p .1 ∙ sym (q .1)));
+  port-setup = ((λ κs a r e. Told (now (a .0)) (setupCall (now (a .0)) (a .1 .0) (a .1 .1 .0)) (shortSetup (a .1 .0)) r (now (e .0))), (record { is = λ w κs a g r. refl }, λ κs a x y s t p q. (p .0 ∙ sym (q .0), p .1 ∙ sym (q .1))));
+  port-submit = ((λ κs a r e. Told (now (a .0)) (submitCall (now (a .0)) (a .1 .0) (a .1 .1 .0)) (short (a .1 .0)) r (now (e .0))), (record { is = λ w κs a g r. refl }, λ κs a x y s t p q. (p .0 ∙ sym (q .0), p .1 ∙ sym (q .1))));
+  port-cancel = ((λ κs a r e. Told (now (a .0)) (cancelCall (now (a .0)) (a .1 .0) (a .1 .1 .0)) (short (a .1 .0)) r (now (e .0))), (record { is = λ w κs a g r. refl }, λ κs a x y s t p q. (p .0 ∙ sym (q .0), p .1 ∙ sym (q .1))));
+  port-choose = ((λ κs a r e. Told (now (a .0)) (chooseCall (now (a .0)) (a .1 .0) (a .1 .1 .0)) (short (a .1 .0)) r (now (e .0))), (record { is = λ w κs a g r. refl }, λ κs a x y s t p q. (p .0 ∙ sym (q .0), p .1 ∙ sym (q .1))));
+  port-opened = ((λ κs a r e. Told (now (a .0)) (openedCall (now (a .0)) (a .1 .0) (a .1 .1 .0)) (short (a .1 .0)) r (now (e .0))), (record { is = λ w κs a g r. refl }, λ κs a x y s t p q. (p .0 ∙ sym (q .0), p .1 ∙ sym (q .1))));
+  port-open-failed = ((λ κs a r e. Told (now (a .0)) (openFailedCall (now (a .0)) (a .1 .0) (a .1 .1 .0)) (short (a .1 .0)) r (now (e .0))), (record { is = λ w κs a g r. refl }, λ κs a x y s t p q. (p .0 ∙ sym (q .0), p .1 ∙ sym (q .1))));
+  port-frame-status = ((λ κs a r e. Told (now (a .0)) (frameStatusCall (now (a .0)) (a .1 .0) (a .1 .1 .0)) (short (a .1 .0)) r (now (e .0))), (record { is = λ w κs a g r. refl }, λ κs a x y s t p q. (p .0 ∙ sym (q .0), p .1 ∙ sym (q .1))));
+  port-closed = ((λ κs a r e. Told (now (a .0)) (closedCall (now (a .0)) (a .1 .0) (a .1 .1 .0)) (short (a .1 .0)) r (now (e .0))), (record { is = λ w κs a g r. refl }, λ κs a x y s t p q. (p .0 ∙ sym (q .0), p .1 ∙ sym (q .1))));
+  port-enable = ((λ κs a r e. Told (now (a .0)) (enableCall (now (a .0)) (a .1 .0) (a .1 .1 .0)) (short (a .1 .0)) r (now (e .0))), (record { is = λ w κs a g r. refl }, λ κs a x y s t p q. (p .0 ∙ sym (q .0), p .1 ∙ sym (q .1))));
+  port-disable = ((λ κs a r e. Told (now (a .0)) (disableCall (now (a .0)) (a .1 .0) (a .1 .1 .0)) (short (a .1 .0)) r (now (e .0))), (record { is = λ w κs a g r. refl }, λ κs a x y s t p q. (p .0 ∙ sym (q .0), p .1 ∙ sym (q .1))));
 }

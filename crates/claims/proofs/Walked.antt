@@ -27,10 +27,18 @@ module _ (T : Ended) (spec : Made T) where
   abbrev pub AsksNothing : Type 2
   AsksNothing = (w : World) (κs : Lfts (T .signature .lifetimes)) (a : Args (T .signature) κs) → (g : at w κs a .ghost) × (at w κs a .requires g ≡ emp (w .𝓤))
 
-  -- what is promised of the answer and of the parameters at the end is a fact, and it is the fact of one answer and one `left` alone
+  -- a fact of the arguments, of the answer and of the parameters at the end
+  abbrev Fact : Type 1
+  Fact = (κs : Lfts (T .signature .lifetimes)) → Args (T .signature) κs → Res (T .signature) κs → AtExit T κs → Type 0
+
+  -- what is promised of the answer and of the parameters at the end is the fact P
+  pub record Means (P : Fact) : Type 2 where
+    pub is : (w : World) (κs : Lfts (T .signature .lifetimes)) (a : Args (T .signature) κs) (g : at w κs a .ghost) (r : Res (T .signature) κs) →
+        at w κs a .ensures g r ≡ exits (w .𝓤) (w .H) (w .𝓖 .A) (T .signature) (T .kept) κs a (λ e. fact (w .𝓤) (P κs a r e))
+
+  -- and it is the fact of one answer and one `left` alone
   abbrev pub OneEnd : {L : Type 0} → ((κs : Lfts (T .signature .lifetimes)) → AtExit T κs → L) → Type 2
   OneEnd left =
-      (w : World) (κs : Lfts (T .signature .lifetimes)) (a : Args (T .signature) κs) (g : at w κs a .ghost) →
-      (P : Res (T .signature) κs → AtExit T κs → Type 0)
-      × ((r : Res (T .signature) κs) → at w κs a .ensures g r ≡ exits (w .𝓤) (w .H) (w .𝓖 .A) (T .signature) (T .kept) κs a (λ e. fact (w .𝓤) (P r e)))
-      × ((x y : Res (T .signature) κs) (s t : AtExit T κs) → P x s → P y t → (x ≡ y) × (left κs s ≡ left κs t))
+      (P : Fact)
+      × (Means P
+      × ((κs : Lfts (T .signature .lifetimes)) (a : Args (T .signature) κs) (x y : Res (T .signature) κs) (s t : AtExit T κs) → P κs a x s → P κs a y t → (x ≡ y) × (left κs s ≡ left κs t)))

@@ -13,7 +13,7 @@ use Rattle.port_rows.specs.declared.Withdrawn.{Withdrawn}
 use Rattle.port_rows.specs.declared.Confirmed.{Confirmed}
 use Rattle.port_rows.specs.declared.Failure.{Failure}
 use Rattle.port_rows.specs.declared.Report.{Report}
-use Rattle.port.specs.Calls.{leftOf, steppedOf, on32, short, shortSetup, setupCall, submitCall, cancelCall, chooseCall, openedCall, openFailedCall, frameStatusCall, closedCall, enableCall, disableCall}
+use Rattle.port.specs.Calls.{leftOf, steppedOf, on32, short, shortSetup, Called, setupCall, submitCall, cancelCall, chooseCall, openedCall, openFailedCall, frameStatusCall, closedCall, enableCall, disableCall}
 use Rattle.port.specs.declared.Moment.{Moment}
 use Rattle.port.specs.declared.Stepped.{Stepped}
 
@@ -58,6 +58,10 @@ shortOf (frameStatus x) s = short (s .port)
 shortOf (closed x) s = short (s .port)
 shortOf (enable x) s = short (s .port)
 shortOf (disable x) s = short (s .port)
+
+-- what the call promises of its answer r and of the list behind it
+abbrev pub Does : Call → State → Stepped → List Request → Type 0
+Does c s r after = Called (s .list) (doneOf c s) (shortOf c s) r after
 
 -- what the call answers
 abbrev pub steppedBy : Call → State → Stepped

@@ -15,8 +15,8 @@ use Rattle.port_rows.specs.Answers.{refusedBy}
 use Rattle.port_rows.specs.declared.Done.{Done}
 use Rattle.port_rows.specs.declared.Word.{Word}
 use Rattle.port_rows.specs.declared.Word.the-variants.{Refused}
-use Rattle.port.specs.Calls.{on32, leftOf, steppedOf, short, Called}
-use Rattle.port.specs.History.{State, Call, doneOf, shortOf, steppedBy, isRefused, leave, Entry, entriesOf}
+use Rattle.port.specs.Calls.{on32, leftOf, steppedOf, short}
+use Rattle.port.specs.History.{State, Call, doneOf, shortOf, Does, steppedBy, isRefused, leave, Entry, entriesOf}
 use Rattle.port.specs.declared.Stepped.{Stepped}
 use Rattle.port.proofs.Begins.{left-length}
 use Rattle.port.proofs.Promised.{refused-leaves}
@@ -88,13 +88,13 @@ module _ (c : Call) (s : State) where
 
   -- ---- what a call promises is what it leaves
 
-  pub taken-so : (r : Stepped) (after : List Request) → Called l (doneOf c s) (shortOf c s) r after → isRefused (r .answer .word) ≡ false → leave c s ≡ record { port = r .port; list = after }
+  pub taken-so : (r : Stepped) (after : List Request) → Does c s r after → isRefused (r .answer .word) ≡ false → leave c s ≡ record { port = r .port; list = after }
   taken-so r after p accepted =
       ap (λ (t : Bool). cond t s (record { port = steppedBy c s .port; list = on32 l (leftOf l (doneOf c s)) l })) (ap (λ (q : Stepped). isRefused (q .answer .word)) (sym (p .0)) ∙ accepted)
       ∙ (λ i. record { port = sym (p .0) i .port; list = sym (p .1) i })
 
   -- a refused call leaves the port that it was lent, and every record
-  pub refused-so : (k : Refusal) (r : Stepped) (after : List Request) → Called l (doneOf c s) (shortOf c s) r after → r .answer .word ≡ Refused k → (r .port ≡ lent) × (after ≡ l)
+  pub refused-so : (k : Refusal) (r : Stepped) (after : List Request) → Does c s r after → r .answer .word ≡ Refused k → (r .port ≡ lent) × (after ≡ l)
   refused-so k r after p e =
       let stays = when-refused (λ (q : Stepped) (m : List Request). (q .port ≡ lent) × (m ≡ l)) (λ j. (refl, refl)) (ap (λ (q : Stepped). isRefused (q .answer .word)) (sym (p .0)) ∙ ap isRefused e) in
       (ap (λ (q : Stepped). q .port) (p .0) ∙ stays .0, p .1 ∙ stays .1)
