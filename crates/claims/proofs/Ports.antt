@@ -28,7 +28,7 @@ use Rattle.port_parts.proofs.Timers as timer
 use Rattle.port_rules.specs.Rules.{rules}
 use Rattle.port_rules.specs.Kept.{Kept, InRange, Free}
 use Rattle.port_rules.proofs.Facts.{rules-say}
-use Rattle.port_rows.specs.Answers.{fresh, refusedBy}
+use Rattle.port_rows.specs.Answers.{fresh, nameless, refusedBy}
 use Rattle.port_rows.specs.Calls.{bare}
 use Rattle.port_rows.specs.declared.Failure.{Failure}
 use Rattle.port_rows.specs.declared.Word.the-variants.{Taken, Refused}
@@ -99,7 +99,8 @@ pub record Ports : Type 2 where
   -- what a call that is taken promises of the port and of the list is what these say that it leaves
   pub promised : (c : Call) (s : State) (r : Stepped) (after : List Request) → Does c s r after → isRefused (r .answer .word) ≡ false → leave c s ≡ record { port = r .port; list = after }
   -- 01 REFUSAL.12
-  pub refused : (c : Call) (s : State) (k : Refusal) (r : Stepped) (after : List Request) → Does c s r after → r .answer .word ≡ Refused k → (r .port ≡ shortOf c s .port) × (after ≡ s .list)
+  -- a refused call gives its number, and names no request and no phy; it leaves the port that it was lent, and every record
+  pub refused : (c : Call) (s : State) (k : Refusal) (r : Stepped) (after : List Request) → Does c s r after → r .answer .word ≡ Refused k → (r .port ≡ shortOf c s .port) × ((after ≡ s .list) × (r .answer ≡ nameless (Refused k)))
   -- 01 REFUSAL.4 01 REFUSAL.5 01 REFUSAL.9 01 REFUSAL.10 01 REFUSAL.14
   pub refuses : (c : Call) (s : State) (k : Refusal) → (steppedBy c s .answer .word ≡ Refused k) ↔ First (groundsOf c s) k
   pub leaves : (l : List Request) (p : Port) (k : Refusal) → leftOf l (refusedBy p k) ≡ l

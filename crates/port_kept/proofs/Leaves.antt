@@ -11,7 +11,7 @@ use Rattle.refusals.specs.declared.Refusal.{Refusal}
 use Rattle.refusals.proofs.Causes.{NoneGiven, by-causes}
 use Rattle.port_parts.specs.declared.Port.{Port}
 use Rattle.port_parts.specs.declared.Request.{Request}
-use Rattle.port_rows.specs.Answers.{refusedBy}
+use Rattle.port_rows.specs.Answers.{nameless, refusedBy}
 use Rattle.port_rows.specs.declared.Done.{Done}
 use Rattle.port_rows.specs.declared.Word.{Word}
 use Rattle.port_rows.specs.declared.Word.the-variants.{Refused}
@@ -93,8 +93,10 @@ module _ (c : Call) (s : State) where
       ap (λ (t : Bool). cond t s (record { port = steppedBy c s .port; list = on32 l (leftOf l (doneOf c s)) l })) (ap (λ (q : Stepped). isRefused (q .answer .word)) (sym (p .0)) ∙ accepted)
       ∙ (λ i. record { port = sym (p .0) i .port; list = sym (p .1) i })
 
-  -- a refused call leaves the port that it was lent, and every record
-  pub refused-so : (k : Refusal) (r : Stepped) (after : List Request) → Does c s r after → r .answer .word ≡ Refused k → (r .port ≡ lent) × (after ≡ l)
+  -- a refused call leaves the port that it was lent, and every record, and names nothing but its number
+  pub refused-so : (k : Refusal) (r : Stepped) (after : List Request) → Does c s r after → r .answer .word ≡ Refused k → (r .port ≡ lent) × ((after ≡ l) × (r .answer ≡ nameless (Refused k)))
   refused-so k r after p e =
-      let stays = when-refused (λ (q : Stepped) (m : List Request). (q .port ≡ lent) × (m ≡ l)) (λ j. (refl, refl)) (ap (λ (q : Stepped). isRefused (q .answer .word)) (sym (p .0)) ∙ ap isRefused e) in
-      (ap (λ (q : Stepped). q .port) (p .0) ∙ stays .0, p .1 ∙ stays .1)
+      let stays = when-refused (λ (q : Stepped) (m : List Request). (q .port ≡ lent) × ((m ≡ l) × (q .answer ≡ nameless (q .answer .word)))) (λ j. (refl, (refl, refl))) (ap (λ (q : Stepped). isRefused (q .answer .word)) (sym (p .0)) ∙ ap isRefused e) in (
+        ap (λ (q : Stepped). q .port) (p .0) ∙ stays .0,
+        (p .1 ∙ stays .1 .0, ap (λ (q : Stepped). q .answer) (p .0) ∙ stays .1 .1 ∙ ap (λ (q : Stepped). nameless (q .answer .word)) (sym (p .0)) ∙ ap nameless e),
+      )
