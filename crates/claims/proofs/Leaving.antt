@@ -15,11 +15,10 @@ use Rattle.port_rows.specs.declared.Answer.{Answer}
 use Rattle.port_rows.specs.declared.Key.{Key}
 use Rattle.port_rows.specs.declared.Wish.{Wish}
 use Rattle.port_rows.specs.declared.Withdrawn.{Withdrawn}
-use Rattle.port_rows.specs.declared.Word.the-variants.{Submitted}
 use Rattle.port.specs.Grounds.{HasKey, Absent}
 use Rattle.port.specs.History.{State, Call, submit, cancel, steppedBy, isRefused, isLast, leave, run, entriesOf, history}
 use Rattle.port_once.specs.Standing.{isSetup, isSubmitted, submits, lastWords, gone, there, wrong, standing, silent}
-use Rattle.port_once.specs.Turns.{keyed, Comes, Leaves, Rests, Holds, Zeros}
+use Rattle.port_once.specs.Turns.{keyed, Given, Comes, Leaves, Rests, Holds, Zeros}
 use Rattle.port_once.specs.Runs.{Run, now, past}
 use Rattle.port_once.specs.Ends.{Ends}
 use Rattle.port_once.specs.Marks.{isCancel, isAcknowledged, isGoing, since, cancels, closes}
@@ -37,8 +36,9 @@ pub record Leaving : Type 0 where
   -- one call of any lent state; a port has eight phys. 01 PORT.11
   -- Submitted: a request comes into the lowest free slot, no request had its key, and the answer names its slot and head
   pub comes : (c : Call) (s : State) → length (s .port .phys) ≡ 8 → isSubmitted (steppedBy c s .answer .word) ≡ true → Comes (s .list) (leave c s .list) (steppedBy c s .answer)
-  -- a submit that is taken is Submitted, with the head that it was given
-  pub gives : (x : Wish) (s : State) → isRefused (steppedBy (submit x) s .answer .word) ≡ false → (steppedBy (submit x) s .answer .word ≡ Submitted) × (steppedBy (submit x) s .answer .frame .head ≡ x .head)
+  -- 01 PORT.12
+  -- a submit that is taken is Submitted, and the request that comes has the head and the submission time that it was given
+  pub gives : (x : Wish) (s : State) → isRefused (steppedBy (submit x) s .answer .word) ≡ false → Given x (steppedBy (submit x) s .answer) (getD (leave (submit x) s .list) (steppedBy (submit x) s .answer .slot) blank)
   -- and a cancel that is taken answers about a request with the key that it was given
   pub withdraws : (x : Withdrawn) (s : State) → isRefused (steppedBy (cancel x) s .answer .word) ≡ false → isOf (steppedBy (cancel x) s .answer .frame .head) (x .key) ≡ true
   -- a last word: the request that it names by slot and head was present and is all zeros

@@ -81,8 +81,8 @@ module _ (s : State) (ok : Lawful s) where
       r = getD l k blank
 
       stopping : (t : Bool) → Done-turns (stoppedBy p r k now t)
-      stopping true = rests l (stoppedBy p r k now true) (ok .list) refl refl refl (λ _. (there, (refl, (there, refl))))
-      stopping false = rests l (stoppedBy p r k now false) (ok .list) refl refl refl (λ _. (there, (refl, (there, refl))))
+      stopping true = rests l (stoppedBy p r k now true) (ok .list) refl refl refl (λ _. (there, (refl, (there, (refl, refl)))))
+      stopping false = rests l (stoppedBy p r k now false) (ok .list) refl refl refl (λ _. (there, (refl, (there, (refl, refl)))))
 
   cancel-turns : (x : Withdrawn) → NoneGiven (cancelCauses p (getD l (keyOf l (x .key)) blank) (rules p l) (keyOf l (x .key)) x) → Done-turns (cancelled p (getD l (keyOf l (x .key)) blank) (keyOf l (x .key)) (x .now))
   cancel-turns x pass =
@@ -102,9 +102,9 @@ module _ (s : State) (ok : Lawful s) where
   chosen-turns now b (none nowhere) = nothing-turns now
   chosen-turns now b (one w) =
       let there = not-free r 0 (waits (w .fits)) in
-      by-chosen Done-turns p r b now (λ _. rests l (sent p r b now) (ok .list) refl refl refl (λ h. (there, (refl, (not-free (placed r 2 (b .phy)) 1 refl, refl)))))
-      (λ _. rests l (opening p r b now) (ok .list) refl refl refl (λ h. (there, (refl, (not-free (placed r 2 (b .phy)) 1 refl, refl)))))
-      (λ _. rests l (closing p r b now) (ok .list) refl refl refl (λ h. (there, (refl, (there, refl))))) (nothing-turns now)
+      by-chosen Done-turns p r b now (λ _. rests l (sent p r b now) (ok .list) refl refl refl (λ h. (there, (refl, (not-free (placed r 2 (b .phy)) 1 refl, (refl, refl))))))
+      (λ _. rests l (opening p r b now) (ok .list) refl refl refl (λ h. (there, (refl, (not-free (placed r 2 (b .phy)) 1 refl, (refl, refl))))))
+      (λ _. rests l (closing p r b now) (ok .list) refl refl refl (λ h. (there, (refl, (there, (refl, refl)))))) (nothing-turns now)
     where
       r : Request
       r = getD l (b .slot) blank
@@ -149,7 +149,7 @@ module _ (s : State) (ok : Lawful s) where
       cases false false v h there = leaves l (left false false v) (ok .list) refl refl h there refl refl
       cases false true true h there = leaves l (left false true true) (ok .list) refl refl h there refl refl
       cases false true false h there =
-          rests l (left false true false) (ok .list) refl refl refl (λ _. (there, (refl, (not-free (again r why (x .now) (timerAfter r why (x .now))) 0 refl, refl))))
+          rests l (left false true false) (ok .list) refl refl refl (λ _. (there, (refl, (not-free (again r why (x .now) (timerAfter r why (x .now))) 0 refl, (refl, refl)))))
 
   frame-status-turns : (x : Report) → NoneGiven (phyCauses p (rules p l) (x .phy) (x .now) (not (hasFrameOut (phyAt p (x .phy))))) → Done-turns (framed p (phyAt p (x .phy)) (onPhy l p (x .phy)) x)
   frame-status-turns x pass =
@@ -188,8 +188,8 @@ module _ (s : State) (ok : Lawful s) where
     opened-turns pass = cases (isCancelled r) (busy (x .phy) (phy-ok p l (x .phy) (x .now) (not (isOpening f)) pass .0))
       where
         cases : (t : Bool) → (f .slot < 32 → Free r → ⊥) → Done-turns (openedBy p f r x t)
-        cases true there = rests l (openedBy p f r x true) (ok .list) refl refl refl (λ h. (there h, (refl, (there h, refl))))
-        cases false there = rests l (openedBy p f r x false) (ok .list) refl refl refl (λ h. (there h, (refl, (there h, refl))))
+        cases true there = rests l (openedBy p f r x true) (ok .list) refl refl refl (λ h. (there h, (refl, (there h, (refl, refl)))))
+        cases false there = rests l (openedBy p f r x false) (ok .list) refl refl refl (λ h. (there h, (refl, (there h, (refl, refl)))))
 
     closed-turns : NoneGiven (phyCauses p (rules p l) (x .phy) (x .now) (not (isJoined f))) → Done-turns (closedDone p f r x)
     closed-turns pass =
@@ -210,7 +210,7 @@ module _ (s : State) (ok : Lawful s) where
       where
         cases : (t : Bool) → f .slot < 32 → (Free r → ⊥) → Done-turns (disabledBy p f r x true t)
         cases true h there = leaves l (disabledBy p f r x true true) (ok .list) refl refl h there refl refl
-        cases false h there = rests l (disabledBy p f r x true false) (ok .list) refl refl refl (λ _. (there, (refl, (not-free (placed r 1 0) 0 refl, refl))))
+        cases false h there = rests l (disabledBy p f r x true false) (ok .list) refl refl refl (λ _. (there, (refl, (not-free (placed r 1 0) 0 refl, (refl, refl)))))
 
   -- ---- all of them
 

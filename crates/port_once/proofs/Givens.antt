@@ -1,12 +1,12 @@
--- Submit stores, and cancel hits, what the call was given: submit's record has its head, and the request that cancel finds has its key.
+-- Submit stores, and cancel hits, what the call was given: submit's record has its head and time, and the request that cancel finds has its key.
 -- Assumes nothing.
 use Prim.Native.Nat.{ℕ, _<_}
-use mathlib.Core.Path.{_≡_, refl}
+use mathlib.Core.Path.{_≡_, refl, sym, ap, subst}
 use mathlib.Core.Bool.{true, false, not}
 use mathlib.Core.List.{List}
 use native.Mathlib.Omega.{arith}
 use lib.Dec.{leb}
-use lib.ListN.{getD}
+use lib.ListN.{length, getD}
 use borrow.Author.Tests.{leb-false}
 use Rattle.laws.proofs.Bools.{nor, and-right}
 use Rattle.laws.proofs.Finds.{Found, none, at}
@@ -14,24 +14,37 @@ use Rattle.refusals.proofs.Causes.{NoneGiven}
 use Rattle.port_parts.specs.Parts.{blank, isFree}
 use Rattle.port_parts.specs.declared.Request.{Request}
 use Rattle.port_rows.specs.Calls.{isCancelled}
-use Rattle.port_rows.specs.Finds.{isOf, hasKey, keyOf}
+use Rattle.port_rows.specs.Finds.{roomOf, isOf, hasKey, keyOf}
 use Rattle.port_rows.specs.declared.Done.{Done}
 use Rattle.port_rows.specs.declared.Key.{Key}
 use Rattle.port_rows.specs.declared.Wish.{Wish}
 use Rattle.port_rows.specs.declared.Withdrawn.{Withdrawn}
-use Rattle.port_rows.specs.declared.Word.the-variants.{Submitted}
-use Rattle.port.specs.History.{State, submit, cancel, steppedBy, isRefused}
+use Rattle.port.specs.Calls.{on32, leftOf}
+use Rattle.port.specs.History.{State, Call, submit, cancel, doneOf, steppedBy, isRefused, leave}
 use Rattle.port.specs.declared.Stepped.{Stepped}
+use Rattle.port.proofs.Begins.{left-here}
 use Rattle.port.proofs.Refusals.{key-found, causesOf, takenOf, behind}
-use Rattle.port_kept.proofs.Leaves.{by-taken, when-taken}
+use Rattle.port_kept.proofs.Leaves.{by-taken, when-taken, taken-so}
 use Rattle.port_kept.proofs.Ways.{by-cancelled}
+use Rattle.port_once.specs.Turns.{Given}
 
--- a submit that is taken answers Submitted, with the head that it was given
-pub submits-given : (x : Wish) (s : State) → isRefused (steppedBy (submit x) s .answer .word) ≡ false → (steppedBy (submit x) s .answer .word ≡ Submitted) × (steppedBy (submit x) s .answer .frame .head ≡ x .head)
-unfolding takenOf
-submits-given x s =
-    when-taken (submit x) s (λ (r : Stepped) (m : List Request). (r .answer .word ≡ Submitted) × (r .answer .frame .head ≡ x .head))
-    (λ size. by-taken (submit x) s (λ (d : Done). (d .answer .word ≡ Submitted) × (d .answer .frame .head ≡ x .head)) (λ passed. (refl, refl)))
+-- a submit that is taken answers Submitted, and stores what it was given
+pub submits-given : (x : Wish) (s : State) → isRefused (steppedBy (submit x) s .answer .word) ≡ false → Given x (steppedBy (submit x) s .answer) (getD (leave (submit x) s .list) (steppedBy (submit x) s .answer .slot) blank)
+unfolding causesOf takenOf
+submits-given x s on =
+    subst (λ (t : State). Given x (steppedBy c s .answer) (getD (t .list) (steppedBy c s .answer .slot) blank)) (sym (taken-so c s (steppedBy c s) (on32 l (leftOf l (doneOf c s)) l) (refl, refl) on))
+    (when-taken c s (λ (r : Stepped) (m : List Request). Given x (r .answer) (getD m (r .answer .slot) blank)) (λ size. by-taken c s (λ (d : Done). Given x (d .answer) (getD (leftOf l d) (d .answer .slot) blank)) (stored size)) on)
+  where
+    c : Call
+    c = submit x
+
+    l : List Request
+    l = s .list
+
+    stored : length l ≡ 32 → NoneGiven (behind (causesOf c s)) → Given x (takenOf c s .answer) (getD (leftOf l (takenOf c s)) (takenOf c s .answer .slot) blank)
+    stored size passed =
+        let here = left-here l (takenOf c s) size refl (leb-false 32 (roomOf l (x .head) .free) (passed .1 .1 .1 .1 .0)) in
+        record { word = refl; named = refl; head = ap (λ (r : Request). r .head) here; time = ap (λ (r : Request). r .submitted) here }
 
 -- what a scan for a key found has it
 found-of : (l : List Request) (x : Key) (n : ℕ) → Found blank (λ r. hasKey r x) l 32 32 n → n < 32 → isOf (getD l n blank .head) x ≡ true

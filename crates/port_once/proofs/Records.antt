@@ -24,18 +24,19 @@ use Rattle.port_once.specs.Standing.{isSubmitted}
 use Rattle.port_once.specs.Turns.{keyed, Stays, OthersStay, Turns}
 
 pub stays-self : (r : Request) → Stays r r
-stays-self r = record { free = λ f. refl; present = λ p. (p, refl) }
+stays-self r = record { free = λ f. refl; present = λ p. (p, refl); time = λ p. refl }
 
--- a request that is still there with its head
-pub stays-there : {r b : Request} → (Free r → ⊥) → (Free b → ⊥) → b .head ≡ r .head → Stays r b
-stays-there p q e = record { free = λ f. absurd (p f); present = λ _. (q, e) }
+-- a request that is still there with its head and time
+pub stays-there : {r b : Request} → (Free r → ⊥) → (Free b → ⊥) → b .head ≡ r .head → b .submitted ≡ r .submitted → Stays r b
+stays-there p q e t = record { free = λ f. absurd (p f); present = λ _. (q, e); time = λ _. t }
 
--- a loss timer goes into no free record, and changes neither stage nor head
+-- a loss timer goes into no free record, and changes neither stage nor head nor time
 pub spread-stays : (x : Loss) (r : Request) → Stays r (spread x r)
 spread-stays x r =
     record {
       free = λ f. by-spread x (λ (b : Request). b ≡ r) r (λ h. absurd (h .1 .0 f)) (λ h. refl);
       present = λ p. by-spread x (λ (b : Request). (Free b → ⊥) × (b .head ≡ r .head)) r (λ h. (p, refl)) (λ h. (p, refl));
+      time = λ p. by-spread x (λ (b : Request). b .submitted ≡ r .submitted) r (λ h. refl) (λ h. refl);
     }
 
 module _ (l : List Request) (d : Done) (len : length l ≡ 32) (some : d .cleared ≡ false) where
@@ -64,7 +65,7 @@ module _ (l : List Request) (d : Done) (len : length l ≡ 32) (some : d .cleare
 
   -- a present request stays one, or the answer names none
   pub rests : isSubmitted (d .answer .word) ≡ false → isLast (d .answer .word) ≡ false
-      → (d .answer .slot < 32 → (Free (getD l (d .answer .slot) blank) → ⊥) × ((getD l (d .answer .slot) blank .head ≡ d .answer .frame .head) × ((Free (d .entry) → ⊥) × (d .entry .head ≡ d .answer .frame .head))))
+      → (d .answer .slot < 32 → (Free (getD l (d .answer .slot) blank) → ⊥) × ((getD l (d .answer .slot) blank .head ≡ d .answer .frame .head) × ((Free (d .entry) → ⊥) × ((d .entry .head ≡ d .answer .frame .head) × (d .entry .submitted ≡ getD l (d .answer .slot) blank .submitted)))))
       → Turns l (leftOf l d) (d .answer)
   rests submitted last entry = inr (inr (record { submitted = submitted; last = last; named = λ h. (entry h .0, entry h .1 .0); all = λ i h. by i h (eqb i (d .answer .slot)) refl }))
     where
@@ -72,5 +73,5 @@ module _ (l : List Request) (d : Done) (len : length l ≡ 32) (some : d .cleare
       by i h true e =
           let at : i ≡ d .answer .slot = eqb-true i (d .answer .slot) e in
           let slot : d .answer .slot < 32 = omega (arith, at, h) in
-          subst (λ (k : ℕ). Stays (getD l k blank) (getD (leftOf l d) k blank)) (sym at) (subst (Stays (getD l (d .answer .slot) blank)) (sym (left-here l d len some slot)) (stays-there (entry slot .0) (entry slot .1 .1 .0) (entry slot .1 .1 .1 ∙ sym (entry slot .1 .0))))
+          subst (λ (k : ℕ). Stays (getD l k blank) (getD (leftOf l d) k blank)) (sym at) (subst (Stays (getD l (d .answer .slot) blank)) (sym (left-here l d len some slot)) (stays-there (entry slot .0) (entry slot .1 .1 .0) (entry slot .1 .1 .1 .0 ∙ sym (entry slot .1 .0)) (entry slot .1 .1 .1 .1)))
       by i h false e = others-stay i h (eqb-false i (d .answer .slot) e)

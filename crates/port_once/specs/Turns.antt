@@ -11,6 +11,8 @@ use Rattle.port_parts.specs.declared.Request.{Request}
 use Rattle.port_rules.specs.Kept.{Free}
 use Rattle.port_rows.specs.declared.Answer.{Answer}
 use Rattle.port_rows.specs.declared.Key.{Key}
+use Rattle.port_rows.specs.declared.Wish.{Wish}
+use Rattle.port_rows.specs.declared.Word.the-variants.{Submitted}
 use Rattle.port.specs.Grounds.{HasKey, Absent}
 use Rattle.port.specs.History.{State, Call, leave, isLast}
 use Rattle.port_kept.specs.Sound.{Sound}
@@ -19,10 +21,18 @@ use Rattle.port_once.specs.Standing.{Standing, gone, there, wrong, isSub
 abbrev pub keyed : Head → Key
 keyed h = record { destination = h .destination; protocol = h .protocol; tag = h .tag }
 
--- a record that neither comes nor leaves: free it stays as it was, present it stays present with its head
+-- a record that neither comes nor leaves: free it stays as it was, present it stays present with its head and submission time
 pub record Stays (a b : Request) : Type 0 where
   pub free : Free a → b ≡ a
   pub present : (Free a → ⊥) → (Free b → ⊥) × (b .head ≡ a .head)
+  pub time : (Free a → ⊥) → b .submitted ≡ a .submitted
+
+-- what the submit x was given stands in its answer a, and in the record r that comes by it
+pub record Given (x : Wish) (a : Answer) (r : Request) : Type 0 where
+  pub word : a .word ≡ Submitted
+  pub named : a .frame .head ≡ x .head
+  pub head : r .head ≡ x .head
+  pub time : r .submitted ≡ x .now
 
 -- the list was l and is m, and the answer is a
 module _ (l m : List Request) (a : Answer) where
