@@ -1,34 +1,26 @@
+-- What stands behind k tabs begins where `start` answers, and `find` answers where its first tab or the end is: field k is what
+-- lies between. Assumes nothing.
 use native.Mathlib.Omega.{arith}
-use Rattle.lines.proofs.Parts.{field-is, place-within}
 use borrow.Author.Needs.{needs}
+use Rattle.lines.proofs.Parts.{field-is, place-within}
 use Rattle.lines.proofs.field.Statement.{statement}
 use Rattle.lines.proofs.field.Tie as tie
-use Rattle.lines.proofs.field.Reads as reads
-use Rattle.lines.proofs.field.Lts as lts
-use Rattle.lines.proofs.find.Reads as find-reads
-use Rattle.lines.proofs.start.Reads as start-reads
 
--- src/lib.rt:118:9
 start-requires : tie.Need-start-requires
 start-requires c κs = search needs
 
--- src/lib.rt:119:9
 find-requires : tie.Need-find-requires
 find-requires c κs = search needs
 
--- src/lib.rt:120:5
 sub-result : tie.Need-sub-result
 sub-result c = search needs
 
--- src/lib.rt:120:5
 part-result-start : tie.Need-part-result-start
 part-result-start c = search needs
 
--- src/lib.rt:120:5
 part-result-end : tie.Need-part-result-end
 part-result-end c = omega (arith, c .find .ensures, place-within 9 (c .before .before .before .args .s .now) (c .before .start .result) (c .before .start .ensures .0))
 
--- src/lib.rt:115:1
 returns : tie.Need-returns
 returns c = field-is (c .before .before .before .before .args .s .now) (c .before .before .before .before .args .k) (c .before .before .start .result) (c .before .find .result) (c .before .before .start .ensures .1) (c .before .find .ensures)
 

@@ -1,14 +1,13 @@
+-- The loop's invariant: `n` and the fields of the bytes left are together one more than the fields of s, for a tab ends a field
+-- and no other byte does. The test before the loop is that of `fieldsWithin`. Assumes nothing.
 use Prim.Native.Nat.{_+_, _-_, _≤_}
-use mathlib.Core.Path.{_≡_, refl, sym, ap, _∙_}
-use lib.ListN.{length, drop}
+use mathlib.Core.Path.{_≡_, sym, ap, _∙_}
 use native.Mathlib.Omega.{arith}
+use lib.ListN.{length, drop}
 use Rattle.lines.specs.Parts.{fieldsOf}
 use Rattle.lines.proofs.Parts.{count-on, counted, within, too-long}
 use Rattle.lines.proofs.fields.Statement.{statement}
 use Rattle.lines.proofs.fields.Tie as tie
-use Rattle.lines.proofs.fields.Reads as reads
-use Rattle.lines.proofs.fields.Lts as lts
-use Rattle.lines.proofs.tabs.Reads as tabs-reads
 
 abbrev Inv-loop : tie.InvT-loop
 Inv-loop s longest n₀ i₀ n i = (i ≤ length s) × (n ≤ i + 1) × (n + length (fieldsOf (drop i s)) ≡ length (fieldsOf s) + 1)
@@ -16,39 +15,30 @@ Inv-loop s longest n₀ i₀ n i = (i ≤ length s) × (n ≤ i + 1) × (n + len
 abbrev μ-loop : tie.MeasureT-loop
 μ-loop s longest n₀ i₀ n i = length s - i
 
--- src/lib.rt:88:9
 returns : tie.Need-returns Inv-loop μ-loop
 returns c = sym (ap length (too-long (c .before .before .args .longest) (c .before .before .args .s .now) (c .if1 .taken)))
 
--- src/lib.rt:92:5
 loop-holds : tie.Need-loop-holds Inv-loop μ-loop
 loop-holds c = (omega arith, omega arith, omega arith)
 
--- src/lib.rt:93:19
 shared-slice-read-tabs : tie.Need-shared-slice-read-tabs Inv-loop μ-loop
 shared-slice-read-tabs c = omega arith
 
--- src/lib.rt:93:14
 tabs-requires : tie.Need-tabs-requires Inv-loop μ-loop
 tabs-requires c κs = tt
 
--- src/lib.rt:93:9
 add-n : tie.Need-add-n Inv-loop μ-loop
 add-n c = omega (arith, c .before .before .before .loop .inv, c .before .before .loop-test .taken, c .tabs .ensures)
 
--- src/lib.rt:94:9
 add-i : tie.Need-add-i Inv-loop μ-loop
 add-i c = omega arith
 
--- src/lib.rt:92:5
 loop-less : tie.Need-loop-less Inv-loop μ-loop
 loop-less c = omega arith
 
--- src/lib.rt:92:5
 loop-again : tie.Need-loop-again Inv-loop μ-loop
 loop-again c = (omega arith, omega (arith, c .before .before .before .loop .inv .1, c .tabs .ensures .1), ap (λ n. (c .before .before .before .loop .n + n) + length (fieldsOf (drop (c .before .before .before .loop .i + 1) (c .before .before .before .before .before .before .args .s .now)))) (c .tabs .ensures .0) ∙ count-on (c .before .before .before .before .before .before .args .s .now) (c .before .before .before .loop .i) (c .before .before .before .loop .n) (c .before .before .loop-test .taken) (c .before .before .before .loop .inv .2))
 
--- src/lib.rt:84:1
 returns-2 : tie.Need-returns-2 Inv-loop μ-loop
 returns-2 c = counted (c .before .before .before .before .args .s .now) (c .before .loop .i) (c .before .loop .n) (c .loop-test .left) (c .before .loop .inv .2) ∙ sym (ap length (within (c .before .before .before .before .args .longest) (c .before .before .before .before .args .s .now) (c .before .before .if1 .left)))
 

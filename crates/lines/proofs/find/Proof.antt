@@ -1,13 +1,13 @@
+-- The loop's invariant: no byte passed is b, so that b's place from `from` on is its place from `i` on; past the end that is `i`.
+-- Assumes nothing.
 use Prim.Native.Nat.{_-_}
 use mathlib.Core.Path.{_≡_, refl, sym, _∙_}
-use lib.ListN.{length}
 use native.Mathlib.Omega.{arith}
+use lib.ListN.{length}
 use Rattle.lines.specs.Parts.{placeFrom}
 use Rattle.lines.proofs.Parts.{found, passed, past}
 use Rattle.lines.proofs.find.Statement.{statement}
 use Rattle.lines.proofs.find.Tie as tie
-use Rattle.lines.proofs.find.Reads as reads
-use Rattle.lines.proofs.find.Lts as lts
 
 abbrev Inv-loop : tie.InvT-loop
 Inv-loop b s from i₀ i = placeFrom b s from ≡ placeFrom b s i
@@ -15,31 +15,24 @@ Inv-loop b s from i₀ i = placeFrom b s from ≡ placeFrom b s i
 abbrev μ-loop : tie.MeasureT-loop
 μ-loop b s from i₀ i = length s - i
 
--- src/lib.rt:59:5
 loop-holds : tie.Need-loop-holds Inv-loop μ-loop
 loop-holds c = refl
 
--- src/lib.rt:60:12
 shared-slice-read-if1 : tie.Need-shared-slice-read-if1 Inv-loop μ-loop
 shared-slice-read-if1 c = omega arith
 
--- src/lib.rt:61:13
 returns : tie.Need-returns Inv-loop μ-loop
 returns c = sym (c .before .before .before .loop .inv ∙ found (c .before .before .before .before .args .b) (c .before .before .before .before .args .s .now) (c .before .before .before .loop .i) (c .before .before .loop-test .taken) (c .if1 .taken))
 
--- src/lib.rt:63:9
 add-i : tie.Need-add-i Inv-loop μ-loop
 add-i c = omega arith
 
--- src/lib.rt:59:5
 loop-less : tie.Need-loop-less Inv-loop μ-loop
 loop-less c = omega arith
 
--- src/lib.rt:59:5
 loop-again : tie.Need-loop-again Inv-loop μ-loop
 loop-again c = c .before .before .before .loop .inv ∙ passed (c .before .before .before .before .args .b) (c .before .before .before .before .args .s .now) (c .before .before .before .loop .i) (c .before .before .loop-test .taken) (c .if1 .left)
 
--- src/lib.rt:55:1
 returns-2 : tie.Need-returns-2 Inv-loop μ-loop
 returns-2 c = sym (c .before .loop .inv ∙ past (c .before .before .args .b) (c .before .before .args .s .now) (c .before .loop .i) (c .loop-test .left))
 

@@ -1,16 +1,14 @@
+-- The loop's invariant: n's digits are those of `rest` and behind them the bytes of `digits` from `i` on; there is room in front
+-- of `i` for those of `rest`, since a number of 64 bits has at most 20 digits. Assumes nothing.
 use Prim.Native.Nat.{_-_}
 use mathlib.Core.Path.{refl, subst}
-use lib.ListN.{length, length-set}
-use Rattle.lines.specs.Puts.{Put}
 use native.Mathlib.Omega.{arith}
+use lib.ListN.{length-set}
+use Rattle.lines.specs.Puts.{Put}
 use Rattle.lines.proofs.Numbers.{Spelled, spelled-none, room-left, spelled-more, spelled-all}
 use Rattle.lines.proofs.Puts.{kept}
 use Rattle.lines.proofs.put_number.Statement.{statement}
 use Rattle.lines.proofs.put_number.Tie as tie
-use Rattle.lines.proofs.put_number.Reads as reads
-use Rattle.lines.proofs.put_number.Lts as lts
-use Rattle.lines.proofs.glyph.Reads as glyph-reads
-use Rattle.lines.proofs.put_bytes.Reads as put-bytes-reads
 
 abbrev Inv-loop : tie.InvT-loop
 Inv-loop n out at digits₀ i₀ rest₀ digits i rest = Spelled n digits i rest
@@ -18,63 +16,48 @@ Inv-loop n out at digits₀ i₀ rest₀ digits i rest = Spelled n digits i rest
 abbrev μ-loop : tie.MeasureT-loop
 μ-loop n out at digits₀ i₀ rest₀ digits i rest = rest
 
--- src/lib.rt:179:5
 loop-holds : tie.Need-loop-holds Inv-loop μ-loop
 loop-holds c = spelled-none _ _ (omega arith) refl
 
--- src/lib.rt:180:9
 sub-i : tie.Need-sub-i Inv-loop μ-loop
 sub-i c = room-left (c .before .loop .inv)
 
--- src/lib.rt:181:21
 glyph-requires : tie.Need-glyph-requires Inv-loop μ-loop
 glyph-requires c κs = omega arith
 
--- src/lib.rt:181:9
 array-write-digits : tie.Need-array-write-digits Inv-loop μ-loop
 array-write-digits c = omega (arith, c .before .before .loop .inv .inside, room-left (c .before .before .loop .inv))
 
--- src/lib.rt:179:5
 loop-less : tie.Need-loop-less Inv-loop μ-loop
 loop-less c = omega (arith, c .before .loop-test .taken)
 
--- src/lib.rt:179:5
 loop-again : tie.Need-loop-again Inv-loop μ-loop
 loop-again c = spelled-more (c .before .before .loop .inv) (c .before .loop-test .taken) _ (c .glyph .ensures)
 
--- src/lib.rt:184:5
 sub-i-2 : tie.Need-sub-i-2 Inv-loop μ-loop
 sub-i-2 c = room-left (c .before .loop .inv)
 
--- src/lib.rt:185:17
 glyph-requires-2 : tie.Need-glyph-requires-2 Inv-loop μ-loop
 glyph-requires-2 c κs = omega (arith, c .loop-test .left)
 
--- src/lib.rt:185:5
 array-write-digits-2 : tie.Need-array-write-digits-2 Inv-loop μ-loop
 array-write-digits-2 c = omega (arith, c .before .before .loop .inv .inside, room-left (c .before .before .loop .inv))
 
--- src/lib.rt:186:15
 sub-put-bytes : tie.Need-sub-put-bytes Inv-loop μ-loop
 sub-put-bytes c = omega (arith, c .before .before .loop .inv .inside)
 
--- src/lib.rt:186:15
 part-put-bytes-start : tie.Need-part-put-bytes-start Inv-loop μ-loop
 part-put-bytes-start c = omega (arith, c .before .before .before .loop .inv .inside)
 
--- src/lib.rt:186:15
 part-put-bytes-end : tie.Need-part-put-bytes-end Inv-loop μ-loop
 part-put-bytes-end c = omega (arith, c .before .before .before .loop .inv .places, length-set (c .before .before .before .loop .digits) (c .before .before .before .loop .i - 1) (c .before .glyph2 .result))
 
--- src/lib.rt:186:5
 put-bytes-requires : tie.Need-put-bytes-requires Inv-loop μ-loop
 put-bytes-requires c κs = tt
 
--- src/lib.rt:173:1
 same-length : tie.Need-same-length Inv-loop μ-loop
 same-length c = kept (c .before .before .put-bytes .ensures)
 
--- src/lib.rt:173:1
 returns : tie.Need-returns Inv-loop μ-loop
 returns c = subst (λ xs. Put (c .before .before .before .before .before .before .before .before .before .before .args .out .now) (c .before .before .before .before .before .before .before .before .before .before .args .at) xs (c .before .before .put-bytes .result) (c .before .before .put-bytes .last .1 .0)) (spelled-all (c .before .before .before .before .before .before .before .before .loop .inv) (c .before .before .before .before .before .before .before .loop-test .left) _ (c .before .before .before .before .before .before .glyph2 .ensures)) (c .before .before .put-bytes .ensures)
 

@@ -1,16 +1,16 @@
-use borrow.Author.Tests.{le-leb}
+-- The loop's invariant: `v` is at most `most`, and what `readNumber` says of s is what `readFrom` says of the bytes left, with
+-- `v` read already. The tests before the loop are those of `begins`; a value past `most` ends it, for digits behind it never make
+-- it smaller. Assumes nothing.
 use Prim.Native.Nat.{_-_, _≤_}
-use mathlib.Core.Path.{_≡_, refl, sym, ap, _∙_}
-use lib.ListN.{length, drop, drop-of-length-le}
+use mathlib.Core.Path.{_≡_, sym, ap, _∙_}
 use native.Mathlib.Omega.{arith}
+use lib.ListN.{length, drop, drop-of-length-le}
 use borrow.Author.Needs.{needs}
+use borrow.Author.Tests.{le-leb}
 use Rattle.lines.specs.Numbers.{readNumber}
 use Rattle.lines.proofs.Numbers.{readFrom, read-empty, read-zero, read-rest, turn-other, turn-large, turn-digit}
 use Rattle.lines.proofs.read_number.Statement.{statement}
 use Rattle.lines.proofs.read_number.Tie as tie
-use Rattle.lines.proofs.read_number.Reads as reads
-use Rattle.lines.proofs.read_number.Lts as lts
-use Rattle.lines.proofs.digit.Reads as digit-reads
 
 abbrev Inv-loop : tie.InvT-loop
 Inv-loop s most v₀ i₀ v i = (i ≤ length s) × (v ≤ most) × (readNumber most s ≡ readFrom most v (drop i s))
@@ -18,63 +18,48 @@ Inv-loop s most v₀ i₀ v i = (i ≤ length s) × (v ≤ most) × (readNumber 
 abbrev μ-loop : tie.MeasureT-loop
 μ-loop s most v₀ i₀ v i = length s - i
 
--- src/lib.rt:42:9
 returns : tie.Need-returns Inv-loop μ-loop
 returns c = sym (read-empty (c .before .before .args .most) (c .before .before .args .s .now) (c .if1 .taken))
 
--- src/lib.rt:44:25
 shared-slice-read-if2 : tie.Need-shared-slice-read-if2 Inv-loop μ-loop
 shared-slice-read-if2 c = search needs
 
--- src/lib.rt:45:9
 returns-2 : tie.Need-returns-2 Inv-loop μ-loop
 returns-2 c = sym (read-zero (c .before .before .before .before .args .most) (c .before .before .before .before .args .s .now) (c .if2 .taken))
 
--- src/lib.rt:49:5
 loop-holds : tie.Need-loop-holds Inv-loop μ-loop
 loop-holds c = (omega arith, omega arith, read-rest (c .before .before .before .before .args .most) (c .before .before .before .before .args .s .now) (c .before .before .if1 .left) (c .if2 .left))
 
--- src/lib.rt:50:23
 shared-slice-read-digit : tie.Need-shared-slice-read-digit Inv-loop μ-loop
 shared-slice-read-digit c = omega arith
 
--- src/lib.rt:50:13
 digit-requires : tie.Need-digit-requires Inv-loop μ-loop
 digit-requires c κs = tt
 
--- src/lib.rt:52:13
 returns-3 : tie.Need-returns-3 Inv-loop μ-loop
 returns-3 c = sym (c .before .before .before .before .loop .inv .2 ∙ turn-other (c .before .before .before .before .before .before .before .before .before .args .most) (c .before .before .before .before .before .before .before .before .before .args .s .now) (c .before .before .before .before .loop .v) (c .before .before .before .before .loop .i) (c .before .digit .result) (c .before .before .before .loop-test .taken) (c .before .digit .ensures) (c .if3 .taken))
 
--- src/lib.rt:55:13
 returns-4 : tie.Need-returns-4 Inv-loop μ-loop
 returns-4 c = sym (c .before .before .before .before .before .loop .inv .2 ∙ turn-large (c .before .before .before .before .before .before .before .before .before .before .args .most) (c .before .before .before .before .before .before .before .before .before .before .args .s .now) (c .before .before .before .before .before .loop .v) (c .before .before .before .before .before .loop .i) (c .before .before .digit .result) (c .before .before .before .before .loop-test .taken) (c .before .before .digit .ensures) (c .before .if3 .left) (omega (arith, c .if4 .taken)))
 
--- src/lib.rt:58:13
 returns-5 : tie.Need-returns-5 Inv-loop μ-loop
 returns-5 c = sym (c .before .before .before .before .before .before .loop .inv .2 ∙ turn-large (c .before .before .before .before .before .before .before .before .before .before .before .args .most) (c .before .before .before .before .before .before .before .before .before .before .before .args .s .now) (c .before .before .before .before .before .before .loop .v) (c .before .before .before .before .before .before .loop .i) (c .before .before .before .digit .result) (c .before .before .before .before .before .loop-test .taken) (c .before .before .before .digit .ensures) (c .before .before .if3 .left) (omega (arith, c .if5 .taken, c .before .if4 .left)))
 
--- src/lib.rt:60:13
 mul-v : tie.Need-mul-v Inv-loop μ-loop
 mul-v c = omega (arith, c .if5 .left, c .before .if4 .left)
 
--- src/lib.rt:60:13
 add-v : tie.Need-add-v Inv-loop μ-loop
 add-v c = omega (arith, c .if5 .left, c .before .if4 .left)
 
--- src/lib.rt:61:9
 add-i : tie.Need-add-i Inv-loop μ-loop
 add-i c = omega arith
 
--- src/lib.rt:49:5
 loop-less : tie.Need-loop-less Inv-loop μ-loop
 loop-less c = omega arith
 
--- src/lib.rt:49:5
 loop-again : tie.Need-loop-again Inv-loop μ-loop
 loop-again c = (omega arith, omega (arith, c .if5 .left, c .before .if4 .left), c .before .before .before .before .before .before .loop .inv .2 ∙ turn-digit (c .before .before .before .before .before .before .before .before .before .before .before .args .most) (c .before .before .before .before .before .before .before .before .before .before .before .args .s .now) (c .before .before .before .before .before .before .loop .v) (c .before .before .before .before .before .before .loop .i) (c .before .before .before .digit .result) (c .before .before .before .before .before .loop-test .taken) (c .before .before .before .digit .ensures) (c .before .before .if3 .left))
 
--- src/lib.rt:38:1
 returns-6 : tie.Need-returns-6 Inv-loop μ-loop
 returns-6 c = sym (c .before .loop .inv .2 ∙ ap (readFrom (c .before .before .before .before .before .before .args .most) (c .before .loop .v)) (drop-of-length-le (c .before .before .before .before .before .before .args .s .now) (c .loop-test .left)) ∙ rw (le-leb _ _ (c .before .loop .inv .1)))
 

@@ -1,13 +1,13 @@
+-- The loop's invariant: s and t are of one length and alike in the bytes passed, so that `same` of them is `same` of what is left
+-- of both. Assumes nothing.
 use Prim.Native.Nat.{_-_, _≤_}
 use mathlib.Core.Path.{_≡_, refl, sym, _∙_}
-use lib.ListN.{length, drop, drop-of-length-le}
 use native.Mathlib.Omega.{arith}
+use lib.ListN.{length, drop, drop-of-length-le}
 use Rattle.lines.specs.Parts.{same}
 use Rattle.lines.proofs.Parts.{same-other, same-next, same-not}
 use Rattle.lines.proofs.same.Statement.{statement}
 use Rattle.lines.proofs.same.Tie as tie
-use Rattle.lines.proofs.same.Reads as reads
-use Rattle.lines.proofs.same.Lts as lts
 
 abbrev Inv-loop : tie.InvT-loop
 Inv-loop s t i₀ i = (i ≤ length s) × (length s ≡ length t) × (same s t ≡ same (drop i s) (drop i t))
@@ -15,39 +15,30 @@ Inv-loop s t i₀ i = (i ≤ length s) × (length s ≡ length t) × (same s t �
 abbrev μ-loop : tie.MeasureT-loop
 μ-loop s t i₀ i = length s - i
 
--- src/lib.rt:118:9
 returns : tie.Need-returns Inv-loop μ-loop
 returns c = sym (same-other (c .before .args .s .now) (c .before .args .t .now) (c .if1 .taken))
 
--- src/lib.rt:121:5
 loop-holds : tie.Need-loop-holds Inv-loop μ-loop
 loop-holds c = (omega arith, c .if1 .left, refl)
 
--- src/lib.rt:122:12
 shared-slice-read-if2 : tie.Need-shared-slice-read-if2 Inv-loop μ-loop
 shared-slice-read-if2 c = omega arith
 
--- src/lib.rt:122:20
 shared-slice-read-if2-2 : tie.Need-shared-slice-read-if2-2 Inv-loop μ-loop
 shared-slice-read-if2-2 c = omega arith
 
--- src/lib.rt:123:13
 returns-2 : tie.Need-returns-2 Inv-loop μ-loop
 returns-2 c = sym (c .before .before .before .before .loop .inv .2 ∙ same-not (c .before .before .before .before .before .before .args .s .now) (c .before .before .before .before .before .before .args .t .now) (c .before .before .before .before .loop .i) (omega arith) (omega arith) (c .if2 .taken))
 
--- src/lib.rt:125:9
 add-i : tie.Need-add-i Inv-loop μ-loop
 add-i c = omega arith
 
--- src/lib.rt:121:5
 loop-less : tie.Need-loop-less Inv-loop μ-loop
 loop-less c = omega arith
 
--- src/lib.rt:121:5
 loop-again : tie.Need-loop-again Inv-loop μ-loop
 loop-again c = (omega arith, c .before .before .before .before .loop .inv .1, c .before .before .before .before .loop .inv .2 ∙ same-next (c .before .before .before .before .before .before .args .s .now) (c .before .before .before .before .before .before .args .t .now) (c .before .before .before .before .loop .i) (omega arith) (omega arith) (c .if2 .left))
 
--- src/lib.rt:114:1
 returns-3 : tie.Need-returns-3 Inv-loop μ-loop
 returns-3 c = sym (c .before .loop .inv .2 ∙ (λ i. same (drop-of-length-le (c .before .before .before .args .s .now) (c .loop-test .left) i) (drop-of-length-le (c .before .before .before .args .t .now) {i = c .before .loop .i} (omega arith) i)))
 

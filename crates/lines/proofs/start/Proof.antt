@@ -1,14 +1,13 @@
-use Prim.Native.Nat.{_+_, _-_, _≤_, _<_}
-use mathlib.Core.Path.{_≡_, refl, sym, ap, _∙_}
-use lib.ListN.{length, drop}
+-- The loop's invariant: from `at` on stands what is behind the first `j` tabs; where no tab is left, nothing stands behind it,
+-- nor behind any tab after it. Assumes nothing.
+use Prim.Native.Nat.{_-_, _≤_}
+use mathlib.Core.Path.{_≡_, refl, ap, _∙_}
 use native.Mathlib.Omega.{arith}
+use lib.ListN.{length, drop}
 use Rattle.lines.specs.Parts.{behindTabs}
-use Rattle.lines.proofs.Parts.{next-field, no-field, place-within}
+use Rattle.lines.proofs.Parts.{next-field, no-field}
 use Rattle.lines.proofs.start.Statement.{statement}
 use Rattle.lines.proofs.start.Tie as tie
-use Rattle.lines.proofs.start.Reads as reads
-use Rattle.lines.proofs.start.Lts as lts
-use Rattle.lines.proofs.find.Reads as find-reads
 
 abbrev Inv-loop : tie.InvT-loop
 Inv-loop s k at₀ j₀ at j = (at ≤ length s) × (j ≤ k) × (drop at s ≡ behindTabs j s)
@@ -16,35 +15,27 @@ Inv-loop s k at₀ j₀ at j = (at ≤ length s) × (j ≤ k) × (drop at s ≡ 
 abbrev μ-loop : tie.MeasureT-loop
 μ-loop s k at₀ j₀ at j = k - j
 
--- src/lib.rt:105:5
 loop-holds : tie.Need-loop-holds Inv-loop μ-loop
 loop-holds c = (omega arith, omega arith, refl)
 
--- src/lib.rt:106:13
 find-requires : tie.Need-find-requires Inv-loop μ-loop
 find-requires c κs = tt
 
--- src/lib.rt:108:18
 add-at : tie.Need-add-at Inv-loop μ-loop
 add-at c = omega arith
 
--- src/lib.rt:110:13
 returns : tie.Need-returns Inv-loop μ-loop
 returns c = (omega arith, no-field (c .before .before .before .before .before .args .s .now) (c .before .before .before .loop .at) (c .before .before .before .loop .j) (c .before .find .result) (c .before .before .before .loop .inv .0) (c .before .before .before .loop .inv .2) (c .before .find .ensures) (c .if1 .left) (c .before .before .before .before .before .args .k) (c .before .before .loop-test .taken))
 
--- src/lib.rt:112:9
 add-j : tie.Need-add-j Inv-loop μ-loop
 add-j c = omega (arith, c .before .before .loop-test .taken)
 
--- src/lib.rt:105:5
 loop-less : tie.Need-loop-less Inv-loop μ-loop
 loop-less c = omega (arith, c .before .before .loop-test .taken)
 
--- src/lib.rt:105:5
 loop-again : tie.Need-loop-again Inv-loop μ-loop
 loop-again c = (omega (arith, c .if1 .taken), omega (arith, c .before .before .loop-test .taken), next-field (c .before .before .before .before .before .args .s .now) (c .before .before .before .loop .at) (c .before .before .before .loop .j) (c .before .find .result) (c .before .before .before .loop .inv .0) (c .before .before .before .loop .inv .2) (c .before .find .ensures))
 
--- src/lib.rt:100:1
 returns-2 : tie.Need-returns-2 Inv-loop μ-loop
 returns-2 c = (c .before .loop .inv .0, let k : c .before .loop .j ≡ c .before .before .before .args .k = omega (arith, c .loop-test .left, c .before .loop .inv .1) in c .before .loop .inv .2 ∙ ap (λ j. behindTabs j (c .before .before .before .args .s .now)) k)
 
