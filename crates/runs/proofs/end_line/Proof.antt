@@ -1,53 +1,40 @@
-use Rattle.runs.proofs.Commands.{cut, taken-alike}
+-- Where no byte is kept, `part` is the line, which says the same cut and uncut; else it is put behind those kept, and the places
+-- of `keep` cut the line as `take enough` does. Assumes nothing.
+use mathlib.Core.List.{_++_}
+use mathlib.Core.Path.{sym, ap, _∙_}
+use lib.ListN.{take}
+use borrow.Author.Needs.{needs}
+use Rattle.lines.proofs.Puts.{up-to}
 use Rattle.runs.specs.Commands.{readLine}
 use Rattle.runs.specs.Feed.{enough}
-use Rattle.lines.proofs.Puts.{up-to, kept}
-use lib.ListN.{take}
-use mathlib.Core.List.{List, _++_}
-use native.Mathlib.Omega.{arith}
-use mathlib.Core.Path.{_≡_, refl, sym, ap, _∙_}
-use borrow.Author.Needs.{needs}
+use Rattle.runs.proofs.Commands.{cut, taken-alike}
 use Rattle.runs.proofs.end_line.Statement.{statement}
 use Rattle.runs.proofs.end_line.Tie as tie
-use Rattle.runs.proofs.end_line.Reads as reads
-use Rattle.runs.proofs.end_line.Lts as lts
-use Rattle.lines.proofs.put_bytes.Reads as put-bytes-reads
-use Rattle.runs.proofs.front.Reads as front-reads
-use Rattle.runs.proofs.take_line.Reads as take-line-reads
 
--- src/lib.rt:284:9
 take-line-requires : tie.Need-take-line-requires
 take-line-requires c κs = search needs
 
--- src/lib.rt:284:9
 same-length : tie.Need-same-length
 same-length c = search needs
 
--- src/lib.rt:284:9
 returns : tie.Need-returns
 returns c = (let e = sym (ap (λ n. readLine (take enough (take n (c .before .before .before .before .before .before .before .before .args .keep .now) ++ c .before .before .before .before .before .before .before .before .args .part .now))) (c .before .before .before .before .if1 .taken) ∙ cut (c .before .before .before .before .before .before .before .before .args .part .now)) in taken-alike e (c .before .before .take-line .ensures))
 
--- src/lib.rt:286:9
 put-bytes-requires : tie.Need-put-bytes-requires
 put-bytes-requires c κs = search needs
 
--- src/lib.rt:287:24
 front-requires : tie.Need-front-requires
 front-requires c κs = search needs
 
--- src/lib.rt:287:5
 take-line-requires-2 : tie.Need-take-line-requires-2
 take-line-requires-2 c κs = search needs
 
--- src/lib.rt:270:1
 same-length-2 : tie.Need-same-length-2
 same-length-2 c = search needs
 
--- src/lib.rt:270:1
 same-length-3 : tie.Need-same-length-3
 same-length-3 c = search needs
 
--- src/lib.rt:270:1
 returns-2 : tie.Need-returns-2
 returns-2 c = (let e = ap readLine (c .before .before .before .before .front .ensures ∙ up-to (c .before .before .before .before .before .before .before .before .put-bytes .ensures) ∙ ap (λ n. take n (take (c .before .before .before .before .before .before .before .before .before .before .before .before .before .before .args .len) (c .before .before .before .before .before .before .before .before .before .before .before .before .before .before .args .keep .now) ++ c .before .before .before .before .before .before .before .before .before .before .before .before .before .before .args .part .now)) (c .before .before .before .before .before .before .before .before .before .before .before .before .before .before .pre)) in taken-alike e (c .before .before .take-line2 .ensures))
 

@@ -1,24 +1,19 @@
-use Rattle.runs.proofs.Turns.{carry, Loop, loop-first, said-all, loop-line, loop-stop, loop-end}
-use Rattle.runs.proofs.Carry.{end-inside, end-behind}
-use Rattle.runs.specs.Feed.{enough, runOf}
-use Rattle.lines.proofs.Puts.{kept}
-use Rattle.laws.proofs.Bools.{nor}
-use borrow.Author.Tests.{eqb-false}
-use lib.ListN.{length, take, drop}
+-- The loop's invariant: the run stands as it does after the first `i` bytes of the block, and what it said of them is put into
+-- out. A turn takes a line and its LF, and stops where `takes` does: at the block's end, or before an LF whose row might not fit.
+-- Assumes nothing.
+use Prim.Native.Nat.{_-_}
 use mathlib.Core.List.{_++_}
-use Prim.Native.Nat.{ℕ, _-_, _+_, _≤_}
+use mathlib.Core.Path.{sym, ap, _∙_}
 use native.Mathlib.Omega.{arith}
-use mathlib.Core.Path.{_≡_, refl, sym, ap, _∙_}
+use lib.ListN.{length, take, drop}
+use borrow.Author.Tests.{eqb-false}
+use Rattle.laws.proofs.Bools.{nor}
+use Rattle.lines.proofs.Puts.{kept}
+use Rattle.runs.specs.Feed.{enough, runOf}
+use Rattle.runs.proofs.Carry.{end-inside, end-behind}
+use Rattle.runs.proofs.Turns.{carry, Loop, loop-first, said-all, loop-line, loop-stop, loop-end}
 use Rattle.runs.proofs.feed.Statement.{statement}
 use Rattle.runs.proofs.feed.Tie as tie
-use Rattle.runs.proofs.feed.Reads as reads
-use Rattle.runs.proofs.feed.Lts as lts
-use Rattle.lines.proofs.find.Reads as find-reads
-use Rattle.runs.proofs.end_line.Reads as end-line-reads
-use Rattle.runs.proofs.front.Reads as front-reads
-use Rattle.runs.proofs.hold.Reads as hold-reads
-use Rattle.runs.proofs.next_line.Reads as next-line-reads
-use Rattle.runs.proofs.places.Reads as places-reads
 
 abbrev Inv-loop : tie.InvT-loop
 Inv-loop block out₀ line₀ len₀ keep₀ state₀ at₀ i₀ out line len keep state at i = Loop (carry line₀ len₀ keep₀ state₀) block out₀ out line len keep state at i
@@ -26,119 +21,90 @@ Inv-loop block out₀ line₀ len₀ keep₀ state₀ at₀ i₀ out line len ke
 abbrev μ-loop : tie.MeasureT-loop
 μ-loop block out₀ line₀ len₀ keep₀ state₀ at₀ i₀ out line len keep state at i = length block - i
 
--- src/lib.rt:341:20
 places-requires : tie.Need-places-requires Inv-loop μ-loop
 places-requires c κs = tt
 
--- src/lib.rt:345:5
 loop-holds : tie.Need-loop-holds Inv-loop μ-loop
 loop-holds c = loop-first _ _ _ _ _ _ (c .before .places .ensures .1)
 
--- src/lib.rt:346:13
 find-requires : tie.Need-find-requires Inv-loop μ-loop
 find-requires c κs = tt
 
--- src/lib.rt:347:36
 sub-if1 : tie.Need-sub-if1 Inv-loop μ-loop
 sub-if1 c = omega (arith, said-all (c .before .before .loop .inv), c .before .before .loop .inv .going .room, kept (c .before .before .loop .inv .bytes))
 
--- src/lib.rt:349:46
 slice-aggregate-front : tie.Need-slice-aggregate-front Inv-loop μ-loop
 slice-aggregate-front c = sym (c .before .before .before .before .loop .inv .size)
 
--- src/lib.rt:349:40
 front-requires : tie.Need-front-requires Inv-loop μ-loop
 front-requires c κs = tt
 
--- src/lib.rt:349:59
 sub-hold : tie.Need-sub-hold Inv-loop μ-loop
 sub-hold c = end-behind (c .before .before .before .before .before .loop .inv .going) (c .before .before .before .find .ensures)
 
--- src/lib.rt:349:59
 part-hold-start : tie.Need-part-hold-start Inv-loop μ-loop
 part-hold-start c = end-behind (c .before .before .before .before .before .loop .inv .going) (c .before .before .before .find .ensures)
 
--- src/lib.rt:349:59
 part-hold-end : tie.Need-part-hold-end Inv-loop μ-loop
 part-hold-end c = end-inside (c .before .before .before .before .before .loop .inv .going) (c .before .before .before .find .ensures)
 
--- src/lib.rt:349:22
 hold-requires : tie.Need-hold-requires Inv-loop μ-loop
 hold-requires c κs = tt
 
--- src/lib.rt:348:13
 same-length : tie.Need-same-length Inv-loop μ-loop
 same-length c = kept (c .before .before .before .before .before .before .before .loop .inv .bytes)
 
--- src/lib.rt:348:13
 returns : tie.Need-returns Inv-loop μ-loop
 returns c = loop-stop (c .before .before .before .before .before .before .before .loop .inv) (c .before .before .before .before .before .find .ensures) (c .before .before .before .before .if1 .taken) (c .before .before .before .before .before .before .before .before .before .before .before .before .before .args .run) (ap (λ k. carry (c .before .before .before .before .before .before .before .before .before .before .before .before .before .args .run .line) (c .before .before .before .before .before .before .before .before .before .before .before .before .before .args .run .len) k (c .before .before .before .before .before .before .before .before .before .before .before .before .before .args .run .state)) (c .before .before .before .before .before .before .before .before .before .places .ensures .0)) (c .hold .ensures ∙ ap (λ b. runOf (record { line = c .before .before .before .before .before .before .before .loop .line; begun = take enough (b ++ take (c .before .before .before .before .before .find .result - c .before .before .before .before .before .before .before .loop .i) (drop (c .before .before .before .before .before .before .before .loop .i) (c .before .before .before .before .before .before .before .before .before .before .before .before .before .args .block .now))); state = c .before .before .before .before .before .before .before .loop .state })) (c .before .before .front .ensures))
 
--- src/lib.rt:354:9
 next-line-requires : tie.Need-next-line-requires Inv-loop μ-loop
 next-line-requires c κs = tt
 
--- src/lib.rt:355:43
 slice-aggregate-end-line : tie.Need-slice-aggregate-end-line Inv-loop μ-loop
 slice-aggregate-end-line c = sym (c .before .before .before .before .before .loop .inv .size)
 
--- src/lib.rt:355:59
 sub-end-line : tie.Need-sub-end-line Inv-loop μ-loop
 sub-end-line c = end-behind (c .before .before .before .before .before .loop .inv .going) (c .before .before .before .find .ensures)
 
--- src/lib.rt:355:59
 part-end-line-start : tie.Need-part-end-line-start Inv-loop μ-loop
 part-end-line-start c = end-behind (c .before .before .before .before .before .loop .inv .going) (c .before .before .before .find .ensures)
 
--- src/lib.rt:355:59
 part-end-line-end : tie.Need-part-end-line-end Inv-loop μ-loop
 part-end-line-end c = end-inside (c .before .before .before .before .before .loop .inv .going) (c .before .before .before .find .ensures)
 
--- src/lib.rt:355:13
 end-line-requires : tie.Need-end-line-requires Inv-loop μ-loop
 end-line-requires c κs = c .before .before .before .before .before .before .before .loop .inv .size
 
--- src/lib.rt:359:13
 add-i : tie.Need-add-i Inv-loop μ-loop
 add-i c = (let ne = eqb-false (c .before .before .before .before .before .before .before .before .before .before .find .result) (length (c .before .before .before .before .before .before .before .before .before .before .before .before .before .before .before .before .before .before .args .block .now)) (nor _ _ (c .before .before .before .before .before .before .before .before .before .if1 .left) .0) in omega (arith, end-inside (c .before .before .before .before .before .before .before .before .before .before .before .before .loop .inv .going) (c .before .before .before .before .before .before .before .before .before .before .find .ensures), ne, c .before .before .before .before .before .before .before .before .before .before .before .before .before .before .before .before .before .before .good))
 
--- src/lib.rt:345:5
 loop-less : tie.Need-loop-less Inv-loop μ-loop
 loop-less c = omega (arith, end-inside (c .before .before .before .before .before .before .before .before .before .before .before .before .loop .inv .going) (c .before .before .before .before .before .before .before .before .before .before .find .ensures), end-behind (c .before .before .before .before .before .before .before .before .before .before .before .before .loop .inv .going) (c .before .before .before .before .before .before .before .before .before .before .find .ensures))
 
--- src/lib.rt:345:5
 loop-again : tie.Need-loop-again Inv-loop μ-loop
 loop-again c = loop-line (c .before .before .before .before .before .before .before .before .before .before .before .before .loop .inv) (c .before .before .before .before .before .before .before .before .before .before .find .ensures) (c .before .before .before .before .before .before .before .before .before .if1 .left) (c .before .before .before .before .before .before .before .before .next-line .ensures) (omega (arith, c .before .before .before .before .end-line .kept, c .before .before .before .before .before .before .before .before .before .before .before .before .loop .inv .size)) (c .before .before .before .before .end-line .ensures)
 
--- src/lib.rt:362:38
 slice-aggregate-front-2 : tie.Need-slice-aggregate-front-2 Inv-loop μ-loop
 slice-aggregate-front-2 c = sym (c .before .before .loop .inv .size)
 
--- src/lib.rt:362:32
 front-requires-2 : tie.Need-front-requires-2 Inv-loop μ-loop
 front-requires-2 c κs = tt
 
--- src/lib.rt:362:51
 sub-hold-2 : tie.Need-sub-hold-2 Inv-loop μ-loop
 sub-hold-2 c = omega (arith, c .before .before .before .loop .inv .going .inside)
 
--- src/lib.rt:362:51
 part-hold-start-2 : tie.Need-part-hold-start-2 Inv-loop μ-loop
 part-hold-start-2 c = omega (arith, c .before .before .before .loop .inv .going .inside)
 
--- src/lib.rt:362:51
 part-hold-end-2 : tie.Need-part-hold-end-2 Inv-loop μ-loop
 part-hold-end-2 c = omega arith
 
--- src/lib.rt:362:14
 hold-requires-2 : tie.Need-hold-requires-2 Inv-loop μ-loop
 hold-requires-2 c κs = tt
 
--- src/lib.rt:335:1
 same-length-2 : tie.Need-same-length-2 Inv-loop μ-loop
 same-length-2 c = kept (c .before .before .before .before .before .loop .inv .bytes)
 
--- src/lib.rt:335:1
 returns-2 : tie.Need-returns-2 Inv-loop μ-loop
 returns-2 c = loop-end (c .before .before .before .before .before .loop .inv) (c .before .before .before .before .loop-test .left) (c .before .before .before .before .before .before .before .before .before .before .before .args .run) (ap (λ k. carry (c .before .before .before .before .before .before .before .before .before .before .before .args .run .line) (c .before .before .before .before .before .before .before .before .before .before .before .args .run .len) k (c .before .before .before .before .before .before .before .before .before .before .before .args .run .state)) (c .before .before .before .before .before .before .before .places .ensures .0)) (c .hold2 .ensures ∙ ap (λ b. runOf (record { line = c .before .before .before .before .before .loop .line; begun = take enough (b ++ take (length (c .before .before .before .before .before .before .before .before .before .before .before .args .block .now) - c .before .before .before .before .before .loop .i) (drop (c .before .before .before .before .before .loop .i) (c .before .before .before .before .before .before .before .before .before .before .before .args .block .now))); state = c .before .before .before .before .before .loop .state })) (c .before .before .front2 .ensures))
 

@@ -1,21 +1,17 @@
-use lib.Seq.{length-take-le, take-all}
+-- Where s has n bytes, its part up to n is `take n` of it; where it has fewer, `take n` leaves it whole. Assumes nothing.
+use mathlib.Core.Path.{sym}
 use native.Mathlib.Omega.{arith}
-use mathlib.Core.Path.{_≡_, refl, sym, ap, _∙_}
+use lib.Seq.{length-take-le, take-all}
 use borrow.Author.Needs.{needs}
 use Rattle.runs.proofs.front.Statement.{statement}
 use Rattle.runs.proofs.front.Tie as tie
-use Rattle.runs.proofs.front.Reads as reads
-use Rattle.runs.proofs.front.Lts as lts
 
--- src/lib.rt:264:9
 slice-aggregate-result : tie.Need-slice-aggregate-result
 slice-aggregate-result c = sym (length-take-le _ _ (c .before .if1 .taken))
 
--- src/lib.rt:264:9
 returns : tie.Need-returns
 returns c = search needs
 
--- src/lib.rt:260:1
 returns-2 : tie.Need-returns-2
 returns-2 c = sym (take-all (c .before .args .n) (c .before .args .s .now) (omega (arith, c .if1 .left)))
 

@@ -1,33 +1,27 @@
-use Rattle.runs.proofs.Carry.{zeros-left}
-use Rattle.runs.specs.Feed.{enough}
-use Rattle.lines.proofs.Puts.{then, at-front}
+-- `begun` and `part`, put one behind the other into 256 zeros, are put at once: as much of them as fits and zeros behind it,
+-- which is what `runOf` keeps. Assumes nothing.
+use mathlib.Core.List.{_++_}
+use mathlib.Core.Path.{ap, _∙_}
 use lib.ListN.{take}
-use mathlib.Core.List.{List, _++_}
-use mathlib.Core.Path.{_≡_, refl, sym, ap, _∙_}
 use borrow.Author.Needs.{needs}
+use Rattle.lines.proofs.Puts.{then, at-front}
+use Rattle.runs.specs.Feed.{enough}
+use Rattle.runs.proofs.Carry.{zeros-left}
 use Rattle.runs.proofs.hold.Statement.{statement}
 use Rattle.runs.proofs.hold.Tie as tie
-use Rattle.runs.proofs.hold.Reads as reads
-use Rattle.runs.proofs.hold.Lts as lts
-use Rattle.lines.proofs.put_bytes.Reads as put-bytes-reads
 
--- src/lib.rt:295:37
 slice-aggregate-put-bytes : tie.Need-slice-aggregate-put-bytes
 slice-aggregate-put-bytes c = search needs
 
--- src/lib.rt:295:9
 put-bytes-requires : tie.Need-put-bytes-requires
 put-bytes-requires c κs = search needs
 
--- src/lib.rt:296:38
 slice-aggregate-put-bytes-2 : tie.Need-slice-aggregate-put-bytes-2
 slice-aggregate-put-bytes-2 c = search needs
 
--- src/lib.rt:296:9
 put-bytes-requires-2 : tie.Need-put-bytes-requires-2
 put-bytes-requires-2 c κs = search needs
 
--- src/lib.rt:291:1
 returns : tie.Need-returns
 returns c = (let p = at-front (then (c .before .before .before .before .put-bytes .ensures) (c .before .put-bytes2 .ensures)) in λ i. record { line = c .before .before .before .before .before .before .before .before .args .line; len = p .0 i; keep = (p .1 ∙ ap (λ z. take enough (c .before .before .before .before .before .before .before .before .args .begun .now ++ c .before .before .before .before .before .before .before .before .args .part .now) ++ z) (zeros-left enough (c .before .before .before .before .before .before .before .before .args .begun .now ++ c .before .before .before .before .before .before .before .before .args .part .now))) i; state = c .before .before .before .before .before .before .before .before .args .t })
 

@@ -1,20 +1,16 @@
-use borrow.Author.Tests.{lt-ltb, le-ltb}
-use mathlib.Core.Path.{_≡_, refl, sym, ap, _∙_}
+-- `next_line` makes the test of `next`, and its ways out are the cases of it; below the last number of 64 bits, 1 can be added.
+-- Assumes nothing.
 use borrow.Author.Needs.{needs}
+use borrow.Author.Tests.{lt-ltb, le-ltb}
 use Rattle.runs.proofs.next_line.Statement.{statement}
 use Rattle.runs.proofs.next_line.Tie as tie
-use Rattle.runs.proofs.next_line.Reads as reads
-use Rattle.runs.proofs.next_line.Lts as lts
 
--- src/lib.rt:255:16
 add-result : tie.Need-add-result
 add-result c = search needs
 
--- src/lib.rt:255:9
 returns : tie.Need-returns
 returns c = rw (lt-ltb _ _ (c .if1 .taken))
 
--- src/lib.rt:251:1
 returns-2 : tie.Need-returns-2
 returns-2 c = rw (le-ltb _ _ (c .if1 .left))
 

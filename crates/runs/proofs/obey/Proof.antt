@@ -1,129 +1,94 @@
+-- Each arm makes the call whose step `obeyed` names for its command; the arm of a bad line makes none and refuses, as `obeyed`
+-- does. Assumes nothing.
+use borrow.Author.Needs.{needs}
 use Rattle.transfer.specs.Calls.{stepOf}
 use Rattle.runs.specs.Commands.{obeyed}
-use mathlib.Core.Path.{_≡_, refl, sym, ap, _∙_}
-use borrow.Author.Needs.{needs}
 use Rattle.runs.proofs.obey.Statement.{statement}
 use Rattle.runs.proofs.obey.Tie as tie
-use Rattle.runs.proofs.obey.Reads as reads
-use Rattle.runs.proofs.obey.Lts as lts
-use Rattle.transfer.proofs.Transfer.ack.Reads as ack-reads
-use Rattle.transfer.proofs.Transfer.cancel.Reads as cancel-reads
-use Rattle.transfer.proofs.Transfer.frame.Reads as frame-reads
-use Rattle.transfer.proofs.Transfer.lost.Reads as lost-reads
-use Rattle.transfer.proofs.Transfer.nak.Reads as nak-reads
-use Rattle.transfer.proofs.Transfer.nexus.Reads as nexus-reads
-use Rattle.transfer.proofs.Transfer.start.Reads as start-reads
-use Rattle.transfer.proofs.Transfer.timeout.Reads as timeout-reads
 
--- src/lib.rt:139:26
 enum-known-c : tie.Need-enum-known-c
 enum-known-c c = search needs
 
--- src/lib.rt:140:13
 start-requires : tie.Need-start-requires
 start-requires c κs = search needs
 
--- src/lib.rt:140:13
 returns : tie.Need-returns
 unfolding obeyed stepOf
 returns c = rw (c .start .ensures, c .before .before .c .given .1)
 
--- src/lib.rt:143:13
 enum-told : tie.Need-enum-told
 enum-told c = search needs
 
--- src/lib.rt:143:13
 frame-requires : tie.Need-frame-requires
 frame-requires c κs = search needs
 
--- src/lib.rt:143:13
 returns-2 : tie.Need-returns-2
 unfolding obeyed stepOf
 returns-2 c = rw (c .frame .ensures, c .before .enum-told .given .1)
 
--- src/lib.rt:146:13
 enum-told-2 : tie.Need-enum-told-2
 enum-told-2 c = search needs
 
--- src/lib.rt:146:13
 ack-requires : tie.Need-ack-requires
 ack-requires c κs = search needs
 
--- src/lib.rt:146:13
 returns-3 : tie.Need-returns-3
 unfolding obeyed stepOf
 returns-3 c = rw (c .ack .ensures, c .before .enum-told2 .given .1)
 
--- src/lib.rt:149:13
 enum-told-3 : tie.Need-enum-told-3
 enum-told-3 c = search needs
 
--- src/lib.rt:149:13
 nak-requires : tie.Need-nak-requires
 nak-requires c κs = search needs
 
--- src/lib.rt:149:13
 returns-4 : tie.Need-returns-4
 unfolding obeyed stepOf
 returns-4 c = rw (c .nak .ensures, c .before .enum-told3 .given .1)
 
--- src/lib.rt:152:13
 enum-told-4 : tie.Need-enum-told-4
 enum-told-4 c = search needs
 
--- src/lib.rt:152:13
 timeout-requires : tie.Need-timeout-requires
 timeout-requires c κs = search needs
 
--- src/lib.rt:152:13
 returns-5 : tie.Need-returns-5
 unfolding obeyed stepOf
 returns-5 c = rw (c .timeout .ensures, c .before .enum-told4 .given .1)
 
--- src/lib.rt:155:13
 enum-told-5 : tie.Need-enum-told-5
 enum-told-5 c = search needs
 
--- src/lib.rt:155:13
 lost-requires : tie.Need-lost-requires
 lost-requires c κs = search needs
 
--- src/lib.rt:155:13
 returns-6 : tie.Need-returns-6
 unfolding obeyed stepOf
 returns-6 c = rw (c .lost .ensures, c .before .enum-told5 .given .1)
 
--- src/lib.rt:158:13
 enum-told-6 : tie.Need-enum-told-6
 enum-told-6 c = search needs
 
--- src/lib.rt:158:13
 nexus-requires : tie.Need-nexus-requires
 nexus-requires c κs = search needs
 
--- src/lib.rt:158:13
 returns-7 : tie.Need-returns-7
 unfolding obeyed stepOf
 returns-7 c = rw (c .nexus .ensures, c .before .enum-told6 .given .1)
 
--- src/lib.rt:161:13
 enum-told-7 : tie.Need-enum-told-7
 enum-told-7 c = search needs
 
--- src/lib.rt:161:13
 cancel-requires : tie.Need-cancel-requires
 cancel-requires c κs = search needs
 
--- src/lib.rt:161:13
 returns-8 : tie.Need-returns-8
 unfolding obeyed stepOf
 returns-8 c = rw (c .cancel .ensures, c .before .enum-told7 .given .1)
 
--- src/lib.rt:165:41
 enum-told-8 : tie.Need-enum-told-8
 enum-told-8 c = search needs
 
--- src/lib.rt:164:13
 returns-9 : tie.Need-returns-9
 unfolding obeyed stepOf
 returns-9 c = rw (c .enum-told8 .given .1)

@@ -1,176 +1,129 @@
-use Rattle.lines.specs.Numbers.{decimal}
-use Rattle.lines.specs.Puts.{Put}
-use mathlib.Core.Path.{_≡_, refl, sym, ap, _∙_}
+-- Each arm puts the letters that `wordOf` gives to that answer; the arm of a refusal puts the digits of its number.
+-- Assumes nothing.
 use borrow.Author.Needs.{needs}
 use Rattle.runs.proofs.put_word.Statement.{statement}
 use Rattle.runs.proofs.put_word.Tie as tie
-use Rattle.runs.proofs.put_word.Reads as reads
-use Rattle.runs.proofs.put_word.Lts as lts
-use Rattle.lines.proofs.put_bytes.Reads as put-bytes-reads
-use Rattle.lines.proofs.put_number.Reads as put-number-reads
-use Rattle.refusals.proofs.number.Reads as number-reads
 
--- src/lib.rt:177:37
 enum-told : tie.Need-enum-told
 enum-told c = search needs
 
--- src/lib.rt:177:37
 slice-aggregate-put-bytes : tie.Need-slice-aggregate-put-bytes
 slice-aggregate-put-bytes c = search needs
 
--- src/lib.rt:177:13
 put-bytes-requires : tie.Need-put-bytes-requires
 put-bytes-requires c κs = search needs
 
--- src/lib.rt:177:13
 same-length : tie.Need-same-length
 same-length c = search needs
 
--- src/lib.rt:177:13
 returns : tie.Need-returns
 returns c = rw (c .before .before .before .before .before .enum-told .given .1) (c .before .before .put-bytes .ensures)
 
--- src/lib.rt:180:37
 enum-told-2 : tie.Need-enum-told-2
 enum-told-2 c = search needs
 
--- src/lib.rt:180:37
 slice-aggregate-put-bytes-2 : tie.Need-slice-aggregate-put-bytes-2
 slice-aggregate-put-bytes-2 c = search needs
 
--- src/lib.rt:180:13
 put-bytes-requires-2 : tie.Need-put-bytes-requires-2
 put-bytes-requires-2 c κs = search needs
 
--- src/lib.rt:180:13
 same-length-2 : tie.Need-same-length-2
 same-length-2 c = search needs
 
--- src/lib.rt:180:13
 returns-2 : tie.Need-returns-2
 returns-2 c = rw (c .before .before .before .before .before .enum-told2 .given .1) (c .before .before .put-bytes2 .ensures)
 
--- src/lib.rt:183:37
 enum-told-3 : tie.Need-enum-told-3
 enum-told-3 c = search needs
 
--- src/lib.rt:183:37
 slice-aggregate-put-bytes-3 : tie.Need-slice-aggregate-put-bytes-3
 slice-aggregate-put-bytes-3 c = search needs
 
--- src/lib.rt:183:13
 put-bytes-requires-3 : tie.Need-put-bytes-requires-3
 put-bytes-requires-3 c κs = search needs
 
--- src/lib.rt:183:13
 same-length-3 : tie.Need-same-length-3
 same-length-3 c = search needs
 
--- src/lib.rt:183:13
 returns-3 : tie.Need-returns-3
 returns-3 c = rw (c .before .before .before .before .before .enum-told3 .given .1) (c .before .before .put-bytes3 .ensures)
 
--- src/lib.rt:186:37
 enum-told-4 : tie.Need-enum-told-4
 enum-told-4 c = search needs
 
--- src/lib.rt:186:37
 slice-aggregate-put-bytes-4 : tie.Need-slice-aggregate-put-bytes-4
 slice-aggregate-put-bytes-4 c = search needs
 
--- src/lib.rt:186:13
 put-bytes-requires-4 : tie.Need-put-bytes-requires-4
 put-bytes-requires-4 c κs = search needs
 
--- src/lib.rt:186:13
 same-length-4 : tie.Need-same-length-4
 same-length-4 c = search needs
 
--- src/lib.rt:186:13
 returns-4 : tie.Need-returns-4
 returns-4 c = rw (c .before .before .before .before .before .enum-told4 .given .1) (c .before .before .put-bytes4 .ensures)
 
--- src/lib.rt:189:37
 enum-told-5 : tie.Need-enum-told-5
 enum-told-5 c = search needs
 
--- src/lib.rt:189:37
 slice-aggregate-put-bytes-5 : tie.Need-slice-aggregate-put-bytes-5
 slice-aggregate-put-bytes-5 c = search needs
 
--- src/lib.rt:189:13
 put-bytes-requires-5 : tie.Need-put-bytes-requires-5
 put-bytes-requires-5 c κs = search needs
 
--- src/lib.rt:189:13
 same-length-5 : tie.Need-same-length-5
 same-length-5 c = search needs
 
--- src/lib.rt:189:13
 returns-5 : tie.Need-returns-5
 returns-5 c = rw (c .before .before .before .before .before .enum-told5 .given .1) (c .before .before .put-bytes5 .ensures)
 
--- src/lib.rt:192:37
 enum-told-6 : tie.Need-enum-told-6
 enum-told-6 c = search needs
 
--- src/lib.rt:192:37
 slice-aggregate-put-bytes-6 : tie.Need-slice-aggregate-put-bytes-6
 slice-aggregate-put-bytes-6 c = search needs
 
--- src/lib.rt:192:13
 put-bytes-requires-6 : tie.Need-put-bytes-requires-6
 put-bytes-requires-6 c κs = search needs
 
--- src/lib.rt:192:13
 same-length-6 : tie.Need-same-length-6
 same-length-6 c = search needs
 
--- src/lib.rt:192:13
 returns-6 : tie.Need-returns-6
 returns-6 c = rw (c .before .before .before .before .before .enum-told6 .given .1) (c .before .before .put-bytes6 .ensures)
 
--- src/lib.rt:195:37
 enum-told-7 : tie.Need-enum-told-7
 enum-told-7 c = search needs
 
--- src/lib.rt:195:37
 slice-aggregate-put-bytes-7 : tie.Need-slice-aggregate-put-bytes-7
 slice-aggregate-put-bytes-7 c = search needs
 
--- src/lib.rt:195:13
 put-bytes-requires-7 : tie.Need-put-bytes-requires-7
 put-bytes-requires-7 c κs = search needs
 
--- src/lib.rt:195:13
 same-length-7 : tie.Need-same-length-7
 same-length-7 c = search needs
 
--- src/lib.rt:195:13
 returns-7 : tie.Need-returns-7
 returns-7 c = rw (c .before .before .before .before .before .enum-told7 .given .1) (c .before .before .put-bytes7 .ensures)
 
--- src/lib.rt:197:25
 enum-known-a : tie.Need-enum-known-a
 enum-known-a c = search needs
 
--- src/lib.rt:198:38
 number-requires : tie.Need-number-requires
 number-requires c κs = search needs
 
--- src/lib.rt:198:38
 cast-put-number : tie.Need-cast-put-number
 cast-put-number c = search needs
 
--- src/lib.rt:198:13
 put-number-requires : tie.Need-put-number-requires
 put-number-requires c κs = search needs
 
--- src/lib.rt:198:13
 same-length-8 : tie.Need-same-length-8
 same-length-8 c = search needs
 
--- src/lib.rt:198:13
 returns-8 : tie.Need-returns-8
 returns-8 c = rw (c .before .before .before .before .before .before .a .given .1) (rw (← c .before .before .before .before .number .ensures) (c .before .before .put-number .ensures))
 
