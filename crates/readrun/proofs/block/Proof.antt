@@ -1,18 +1,16 @@
+-- The loop's invariant: the carry after the whole input is that of `now` after the bytes left, of which `feed` takes at least
+-- one, since out has room for a row. Where a write fails, `open` is false, and nothing is promised of the carry. Assumes nothing.
+use Prim.Native.Nat.{_-_, _≤_}
+use mathlib.Core.Path.{_≡_, refl, sym, ap, _∙_}
+use native.Mathlib.Omega.{arith}
+use lib.ListN.{length, drop, drop-of-length-le}
+use lib.Seq.{length-take-le}
 use Rattle.laws.proofs.Bools.{never}
-use Rattle.runs.proofs.Output.{turn-within, turn-moves, turn-carries}
 use Rattle.runs.specs.Feed.{carryOf, after}
 use Rattle.runs.specs.Rows.{longestRow}
-use lib.Seq.{length-take-le}
-use lib.ListN.{length, drop, drop-of-length-le}
-use native.Mathlib.Omega.{arith}
-use mathlib.Core.Path.{_≡_, refl, sym, ap, _∙_}
-use Prim.Native.Nat.{_+_, _-_, _≤_, _<_}
+use Rattle.runs.proofs.Output.{turn-within, turn-moves, turn-carries}
 use Rattle.readrun.proofs.block.Statement.{statement}
 use Rattle.readrun.proofs.block.Tie as tie
-use Rattle.readrun.proofs.block.Reads as reads
-use Rattle.readrun.proofs.block.Lts as lts
-use Rattle.io.proofs.write_all.Reads as write-all-reads
-use Rattle.runs.proofs.feed.Reads as feed-reads
 
 abbrev Inv-loop : tie.InvT-loop
 Inv-loop input out₀ now₀ from₀ out now from = (from ≤ length input) × (length out ≡ length out₀) × (longestRow ≤ length out₀) × (after (carryOf now₀) input ≡ after (carryOf now) (drop from input))
@@ -20,63 +18,48 @@ Inv-loop input out₀ now₀ from₀ out now from = (from ≤ length input) × (
 abbrev μ-loop : tie.MeasureT-loop
 μ-loop input out₀ now₀ from₀ out now from = length input - from
 
--- src/main.rt:24:5
 loop-holds : tie.Need-loop-holds Inv-loop μ-loop
 loop-holds c = (omega arith, refl, c .before .before .pre, refl)
 
--- src/main.rt:25:35
 sub-feed : tie.Need-sub-feed Inv-loop μ-loop
 sub-feed c = omega arith
 
--- src/main.rt:25:35
 part-feed-start : tie.Need-part-feed-start Inv-loop μ-loop
 part-feed-start c = omega arith
 
--- src/main.rt:25:35
 part-feed-end : tie.Need-part-feed-end Inv-loop μ-loop
 part-feed-end c = omega arith
 
--- src/main.rt:25:13
 feed-requires : tie.Need-feed-requires Inv-loop μ-loop
 feed-requires c κs = tt
 
--- src/main.rt:28:30
 slice-reshare-prefix-write-all : tie.Need-slice-reshare-prefix-write-all Inv-loop μ-loop
 slice-reshare-prefix-write-all c = omega (arith, c .before .before .before .feed .ensures .within, c .before .before .before .feed .kept)
 
--- src/main.rt:28:30
 slice-aggregate-write-all : tie.Need-slice-aggregate-write-all Inv-loop μ-loop
 slice-aggregate-write-all c = sym (length-take-le _ _ (omega (arith, c .before .before .before .before .feed .ensures .within, c .before .before .before .before .feed .kept)))
 
--- src/main.rt:28:13
 write-all-requires : tie.Need-write-all-requires Inv-loop μ-loop
 write-all-requires c κs = tt
 
--- src/main.rt:29:13
 same-length : tie.Need-same-length Inv-loop μ-loop
 same-length c = omega (arith, c .before .before .before .before .before .before .feed .kept, c .before .before .before .before .before .before .before .before .before .before .loop .inv .1)
 
--- src/main.rt:29:13
 returns : tie.Need-returns Inv-loop μ-loop
 returns c = λ e. absurd (never e)
 
--- src/main.rt:34:9
 add-from : tie.Need-add-from Inv-loop μ-loop
 add-from c = omega (arith, turn-within (c .before .before .before .before .before .before .before .before .before .before .before .loop .now) (c .before .before .before .before .before .before .before .before .before .before .before .before .before .before .args .input .now) (c .before .before .before .before .before .before .before .before .before .before .before .loop .out) (c .before .before .before .before .before .before .before .before .before .before .before .loop .from) (c .before .before .before .before .before .before .before .feed .result) _ (c .before .before .before .before .before .before .before .before .before .before .before .loop .inv .0) (c .before .before .before .before .before .before .before .feed .ensures), c .before .before .before .before .before .before .before .before .before .before .before .before .before .before .good)
 
--- src/main.rt:24:5
 loop-less : tie.Need-loop-less Inv-loop μ-loop
 loop-less c = omega (arith, turn-within (c .before .before .before .before .before .before .before .before .before .before .before .loop .now) (c .before .before .before .before .before .before .before .before .before .before .before .before .before .before .args .input .now) (c .before .before .before .before .before .before .before .before .before .before .before .loop .out) (c .before .before .before .before .before .before .before .before .before .before .before .loop .from) (c .before .before .before .before .before .before .before .feed .result) _ (c .before .before .before .before .before .before .before .before .before .before .before .loop .inv .0) (c .before .before .before .before .before .before .before .feed .ensures), turn-moves (c .before .before .before .before .before .before .before .before .before .before .before .loop .now) (c .before .before .before .before .before .before .before .before .before .before .before .before .before .before .args .input .now) (c .before .before .before .before .before .before .before .before .before .before .before .loop .out) (c .before .before .before .before .before .before .before .before .before .before .before .loop .from) (c .before .before .before .before .before .before .before .feed .result) _ (c .before .before .before .before .before .before .before .before .before .before .before .loop .inv .0) (c .before .before .before .before .before .before .before .feed .ensures) (omega (arith, c .before .before .before .before .before .before .before .before .before .before .before .loop .inv .1, c .before .before .before .before .before .before .before .before .before .before .before .loop .inv .2)) (c .before .before .before .before .before .before .before .before .before .before .loop-test .taken))
 
--- src/main.rt:24:5
 loop-again : tie.Need-loop-again Inv-loop μ-loop
 loop-again c = (turn-within (c .before .before .before .before .before .before .before .before .before .before .before .loop .now) (c .before .before .before .before .before .before .before .before .before .before .before .before .before .before .args .input .now) (c .before .before .before .before .before .before .before .before .before .before .before .loop .out) (c .before .before .before .before .before .before .before .before .before .before .before .loop .from) (c .before .before .before .before .before .before .before .feed .result) _ (c .before .before .before .before .before .before .before .before .before .before .before .loop .inv .0) (c .before .before .before .before .before .before .before .feed .ensures), omega (arith, c .before .before .before .before .before .before .before .feed .kept, c .before .before .before .before .before .before .before .before .before .before .before .loop .inv .1), c .before .before .before .before .before .before .before .before .before .before .before .loop .inv .2, c .before .before .before .before .before .before .before .before .before .before .before .loop .inv .3 ∙ turn-carries (c .before .before .before .before .before .before .before .before .before .before .before .loop .now) (c .before .before .before .before .before .before .before .before .before .before .before .before .before .before .args .input .now) (c .before .before .before .before .before .before .before .before .before .before .before .loop .out) (c .before .before .before .before .before .before .before .before .before .before .before .loop .from) (c .before .before .before .before .before .before .before .feed .result) _ (c .before .before .before .before .before .before .before .before .before .before .before .loop .inv .0) (c .before .before .before .before .before .before .before .feed .ensures))
 
--- src/main.rt:18:1
 same-length-2 : tie.Need-same-length-2 Inv-loop μ-loop
 same-length-2 c = c .before .loop .inv .1
 
--- src/main.rt:18:1
 returns-2 : tie.Need-returns-2 Inv-loop μ-loop
 returns-2 c = λ _. sym (c .before .loop .inv .3 ∙ ap (after (carryOf (c .before .loop .now))) (drop-of-length-le (c .before .before .before .before .args .input .now) (c .loop-test .left)))
 
