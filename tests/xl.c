@@ -346,7 +346,7 @@ static void compare_crossing(char **at)
 	same(where, in5, field(at));
 }
 
-/* 01 XL.6 01 REFUSAL.11: the lowest number first, in every state */
+/* 01 XL.4 01 XL.6 01 REFUSAL.11: the lowest number first, in every state; and a frame held or remembered with a field off OPEN's */
 static void compare_refused(char **at)
 {
 	int state = atoi(field(at)), there = atoi(field(at));
@@ -359,6 +359,8 @@ static void compare_refused(char **at)
 	same(where, disabled, field(at));
 	same(where, "1", field(at));
 	same(where, "2", field(at));
+	same(where, "3", field(at));
+	same(where, "3", field(at));
 }
 
 /* 01 XL.2 */

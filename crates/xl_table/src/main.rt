@@ -616,12 +616,12 @@ fn print_crossings() {
     }
 }
 
-fn blank(p: u8, there: u8) -> State {
+fn lent(p: u8, held: Held, heard: Held) -> State {
     state(
         p,
         Memory {
-            held: held(there, transmitted()),
-            heard: Held::Nothing,
+            held,
+            heard,
             aip: Seen::Never,
             broke: false,
             close: false,
@@ -630,15 +630,27 @@ fn blank(p: u8, there: u8) -> State {
     )
 }
 
-// Event n with a frame of rate 11.
+// A frame whose rate is not one of OPEN's.
+fn unlisted() -> OpenFrame {
+    frame(2, 100, 4000, 3000, 11)
+}
+
 fn print_unlisted(s: State, n: u8) {
-    print_step(s, event(n, 0), frame(2, 100, 4000, 3000, 11));
+    print_step(s, event(n, 0), unlisted());
+}
+
+// Disable in a state that holds such a frame, and in one that remembers it.
+fn print_lent(p: u8) {
+    let f = Held::Frame(unlisted());
+    let h = Held::Frame(transmitted());
+    print_step(lent(p, f, Held::Nothing), Event::Disable, received());
+    print_step(lent(p, h, f), Event::Disable, received());
 }
 
 // A frame with rate 11 beside each event that takes one, and an OPEN of bytes that the reader refuses, in a state that keeps the
-// rules and in one that does not.
+// rules and in one that does not; then states with such a frame.
 fn print_refusals(p: u8, there: u8) {
-    let s = blank(p, there);
+    let s = lent(p, held(there, transmitted()), Held::Nothing);
     let short = [0u8; 27];
     let zeros = [0u8; 28];
     text(b"refused\t");
@@ -651,6 +663,7 @@ fn print_refusals(p: u8, there: u8) {
     print_unlisted(s, 22);
     print_received(s, &short);
     print_received(s, &zeros);
+    print_lent(p);
     sign(b'\n');
 }
 
