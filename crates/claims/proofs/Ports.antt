@@ -61,7 +61,6 @@ use Rattle.claims.proofs.Walked.{Means}
 abbrev lent : Port → List Request → State
 lent p l = record { port = p; list = l }
 
--- 01 PORT.12 01 PORT.13 01 PORT.14 01 PORT.15
 pub record Ports : Type 2 where
   -- what each of the ten functions promises, as the checker makes it of its source, is what its own call does; a holds the list, the port and
   -- what the call is given, e the list at the end, and a setup is lent no port
@@ -75,7 +74,9 @@ pub record Ports : Type 2 where
   pub call-closed : Means call-closed.ended (λ M. call-closed.spec) (λ κs a r e. Does (closed (a .1 .1 .0)) (lent (a .1 .0) (now (a .0))) r (now (e .0)))
   pub call-enable : Means call-enable.ended (λ M. call-enable.spec) (λ κs a r e. Does (enable (a .1 .1 .0)) (lent (a .1 .0) (now (a .0))) r (now (e .0)))
   pub call-disable : Means call-disable.ended (λ M. call-disable.spec) (λ κs a r e. Does (disable (a .1 .1 .0)) (lent (a .1 .0) (now (a .0))) r (now (e .0)))
+  -- 01 PORT.12 01 PORT.13 01 PORT.14
   pub chooses : (x : Asked) (l : List Request) → length (x .phys) ≡ 8 → Right (x .phys) (x .now) l (chosenOf x l 32)
+  -- 01 PORT.15
   pub nothing : (ps : List Phy) (now : ℕ) (l : List Request) (p : Pick) → Right ps now l p → (p .step ≡ 0) ↔ ((i k step : ℕ) → i < 32 → k < 8 → Fits ps now l i k step → ⊥)
   -- and choose, where it is not refused, answers that pick
   pub answers : (s : State) (x : Moment) → isRefused (steppedBy (choose x) s .answer .word) ≡ false → Tells (pickAt (s .list) (s .port) (x .now)) (steppedBy (choose x) s .answer)
@@ -83,6 +84,7 @@ pub record Ports : Type 2 where
   -- Open Failed of an SSP request whose destination's timer runs, with a reason that doesn't stop it: each request that is present behind it has
   -- the timer that it had
   pub runs-on : (s : State) (x : Failure) → isSsp (onPhy (s .list) (s .port) (x .phy) .head) ≡ true → isSet (onPhy (s .list) (s .port) (x .phy) .loss) ≡ true → isStopping (reasonOf (x .why)) ≡ false → (i : ℕ) → i < 32 → (Free (getD (leave (openFailed x) s .list) i blank) → ⊥) → getD (leave (openFailed x) s .list) i blank .loss ≡ getD (s .list) i blank .loss
+  -- whatever reasons stop one, and whatever start one
   pub timer : (stops starts : Reason → Bool) (why : Reason) (t : Stamp) (now : ℕ) → stops why ≡ false → isSet t ≡ true → timerBy (stops why) (starts why) t now ≡ t
   -- 01 PORT.4 01 PORT.5 01 PORT.6 01 PORT.7 01 PORT.8 01 PORT.9 01 PORT.10
   pub kept : (p : Port) (l : List Request) → Says (rules p l) (Kept p l)
@@ -101,7 +103,7 @@ pub record Ports : Type 2 where
   -- 01 REFUSAL.12
   -- a refused call gives its number, and names no request and no phy; it leaves the port that it was lent, and every record
   pub refused : (c : Call) (s : State) (k : Refusal) (r : Stepped) (after : List Request) → Does c s r after → r .answer .word ≡ Refused k → (r .port ≡ shortOf c s .port) × ((after ≡ s .list) × (r .answer ≡ nameless (Refused k)))
-  -- 01 REFUSAL.4 01 REFUSAL.5 01 REFUSAL.9 01 REFUSAL.10 01 REFUSAL.14
+  -- 01 REFUSAL.1 01 REFUSAL.2 01 REFUSAL.3 01 REFUSAL.4 01 REFUSAL.5 01 REFUSAL.6 01 REFUSAL.9 01 REFUSAL.10 01 REFUSAL.14
   pub refuses : (c : Call) (s : State) (k : Refusal) → (steppedBy c s .answer .word ≡ Refused k) ↔ First (groundsOf c s) k
   pub leaves : (l : List Request) (p : Port) (k : Refusal) → leftOf l (refusedBy p k) ≡ l
 
