@@ -2,7 +2,7 @@
 -- calls and next-frame calls mixed. The history is read from the calls, and of a next-frame call from the bytes that it wrote.
 -- Assumes nothing.
 use Prim.Native.Nat.{ℕ, _+_, _*_, _≤_, _<_}
-use mathlib.Core.Bool.{true, false}
+use mathlib.Core.Bool.{true, false, cond}
 use mathlib.Core.List.{List, [], _∷_, _++_}
 use mathlib.Core.Path.{_≡_}
 use lib.ListN.{length}
@@ -10,7 +10,7 @@ use native.Mathlib.Omega.{arith}
 use Rattle.transfer.specs.Rules.{endOf, before, frames as framesIn}
 use Rattle.transfer.specs.Steps.{bound64, unfinished}
 use Rattle.transfer.specs.Demand.{Demand3}
-use Rattle.transfer.specs.History.{Frame, Entry, EntryOf, View, sent, view, framesSent, Covered}
+use Rattle.transfer.specs.History.{Frame, Entry, EntryOf, View, sent, view, firstResent, framesSent, Covered}
 use Rattle.transfer.specs.declared.Transfer.{Transfer}
 use Rattle.transfer.specs.declared.Stepped.{Stepped}
 use Rattle.transfer.specs.declared.Answer.{Answer}
@@ -21,6 +21,7 @@ use Rattle.send.specs.Calls.{Call, stepOf, run, Typed, AllTyped}
 use Rattle.send.specs.History.{Shot, shotsOf, history, frames, FromImage, AllFromImage, Shown}
 use Rattle.send.proofs.Demand.{demand-3}
 use Rattle.send.proofs.Image.{delivered}
+use Rattle.send.proofs.Pointer.{changing-is}
 use Rattle.send.proofs.Plain.{sends-end}
 
 -- some calls from the state before START, and one call more; tags are of two bytes
@@ -64,6 +65,9 @@ pub record Balance : Type 0 where
   -- what `settled` asks for comes about: with none unanswered in run, and once done, all frames of the attempt were ACKed
   pub all-acked : (r : Run) → now r .phase ≡ Phase.Run → now r .unanswered ≡ 0 → view (past r) .good ≡ view (past r) .attempt
   pub all-done : (r : Run) → now r .phase ≡ Phase.Done → view (past r) .good ≡ view (past r) .attempt
+  -- 01 DATA.1
+  -- a frame's changing data pointer is one exactly if its attempt is a resend in which none went before it, by the history
+  pub changing : (r : Run) (f : Shot) → shotsOf bound64 (r .last) (now r) ≡ sent f ∷ [] → f .changing ≡ cond (firstResent (view (past r))) 1 0
   -- what the depth computation lost: with the bytes of one image lent to each next-frame call at its offset, at "delivered" the
   -- payloads that the DATA reader finds in the ACKed frames' bytes cover the request, byte for byte of that image
   pub image : (r : Run) (image : List ℕ) → AllFromImage image bound64 (r .calls) before → FromImage image (r .last) (now r) → next r .answer ≡ Answer.Done → (x : ℕ) → now r .offset ≤ x → x < endOf (now r) → Shown image x (view (shotsOf bound64 (r .last) (now r) ++ history bound64 (r .calls) before []) .acked)
@@ -87,6 +91,7 @@ balance = record {
   over = λ r. all r .over;
   all-acked = λ r. all r .all-acked;
   all-done = λ r. all r .all-done;
+  changing = λ r. changing-is bound64 (r .calls) (r .last) (r .typed) (r .tagged);
   image = λ r image given this. delivered image bound64 (r .calls) (r .last) (r .typed) (r .tagged) given this;
   unstuck = λ s. unstuck bound64 (omega arith) s;
   ends = λ r. sends-end bound64 (r .calls) (r .typed);

@@ -23,15 +23,18 @@ use Rattle.transfer.specs.Rules.{endOf, rules}
 use Rattle.transfer.specs.Steps.{frameLength, framed, refused, frameCauses, frameStep}
 use Rattle.transfer.specs.Calls as plainly
 use Rattle.transfer.specs.Log.{nextFrame, entriesOf}
-use Rattle.transfer.specs.History.{Frame, Entry, EntryOf, entryOf as entryFor, entries, isRefused}
+use Rattle.transfer.specs.History.{Frame, Entry, EntryOf, sent, entryOf as entryFor, entries, isRefused}
 use Rattle.transfer.specs.declared.Transfer.{Transfer}
 use Rattle.transfer.specs.declared.Stepped.{Stepped}
 use Rattle.transfer.specs.declared.Answer.{Answer}
 use Rattle.transfer.proofs.Calls.{frame-fits}
-use Rattle.send.specs.Send.{headOf, fitting, nextCauses, nextStep, nextBytes, isSent}
+use Rattle.send.specs.Send.{changingOf, headOf, fitting, nextCauses, nextStep, nextBytes, isSent}
 use Rattle.send.specs.Calls.{Call, plain, next, stepOf}
 use Rattle.send.specs.History.{Shot, found, written, unwritten, shotsOf, frameOf, entryOf, frames}
 use Rattle.send.proofs.Laws.{Long, long}
+
+pub apart : _≡_ {A = ℕ} 0 1 → ⊥
+apart z = omega arith
 
 -- the frames of what a call left, before those of the history
 pub joined : (es : List (EntryOf Shot)) (fs : List Entry) (h : List (EntryOf Shot)) → frames es ≡ fs → fs ++ frames h ≡ frames (es ++ h)
@@ -52,6 +55,21 @@ entry-frames c f a = by (isRefused a) c
     by false plainly.Call.nexus = refl
     by false plainly.Call.cancel = refl
 
+-- the frame in what a call adds is the one that the call sent
+pub the-sent : (c : plainly.Call) (g f : Shot) (a : Answer) → entries c g a ≡ sent f ∷ [] → f ≡ g
+the-sent c g f a = by (isRefused a) c
+  where
+    by : (t : Bool) (c : plainly.Call) → cond t [] (entryFor c g ∷ []) ≡ sent f ∷ [] → f ≡ g
+    by true c e = absurd (apart (cc))
+    by false (plainly.Call.start b n m r) e = absurd (apart (cc))
+    by false plainly.Call.frame e = (cc)
+    by false plainly.Call.ack e = absurd (apart (cc))
+    by false plainly.Call.nak e = absurd (apart (cc))
+    by false plainly.Call.timeout e = absurd (apart (cc))
+    by false plainly.Call.lost e = absurd (apart (cc))
+    by false plainly.Call.nexus e = absurd (apart (cc))
+    by false plainly.Call.cancel e = absurd (apart (cc))
+
 module _ (bound : ℕ) (s : Transfer) (destination source tag : ℕ) (body out : List ℕ) (typed : tag < 65536) where
   abbrev head : DataHead
   head = headOf s destination source tag
@@ -61,7 +79,7 @@ module _ (bound : ℕ) (s : Transfer) (destination source tag : ℕ) (body out :
     pub step : nextStep bound s head body out ≡ frameStep bound s
     pub sends : frameStep bound s ≡ framed (frameLength s) s
     pub count : length body ≡ frameLength s
-    pub bytes : written (length body) (nextBytes bound s head body out) ≡ record { at = s .read; len = length body; bytes = body }
+    pub bytes : written (length body) (nextBytes bound s head body out) ≡ record { at = s .read; len = length body; changing = changingOf s; bytes = body }
 
   -- one that is not changes nothing and leaves no frame
   pub record Kept : Type 0 where
@@ -94,7 +112,7 @@ module _ (bound : ℕ) (s : Transfer) (destination source tag : ℕ) (body out :
             step = v Stepped (refused s) (framed (frameLength s) s) ∙ sym sends;
             sends = sends;
             count = n;
-            bytes = ap (written (length body)) (v (List ℕ) (λ _. out) whole) ∙ (λ i. found (readData (front i)) (front i)) ∙ ap (λ (r : DataRead). found r frame) read ∙ (λ i. record { at = s .read; len = length body; bytes = body-held head body i });
+            bytes = ap (written (length body)) (v (List ℕ) (λ _. out) whole) ∙ (λ i. found (readData (front i)) (front i)) ∙ ap (λ (r : DataRead). found r frame) read ∙ (λ i. record { at = s .read; len = length body; changing = changingOf s; bytes = body-held head body i });
           })
 
   -- what the history holds of the call

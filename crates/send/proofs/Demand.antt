@@ -3,7 +3,6 @@
 use Prim.Native.Nat.{ℕ}
 use mathlib.Core.List.{List, [], _∷_, _++_}
 use mathlib.Core.Path.{_≡_, sym, subst}
-use native.Mathlib.Omega.{arith}
 use Rattle.laws.proofs.Bools.{never}
 use Rattle.refusals.specs.declared.Refusal.{Refusal}
 use Rattle.transfer.specs.Rules.{before}
@@ -19,10 +18,7 @@ use Rattle.transfer.proofs.Demand.{demand, demand-of}
 use Rattle.send.specs.Send.{headOf, nextStep}
 use Rattle.send.specs.Calls.{Call, plain, next, stepOf, run, Typed, AllTyped}
 use Rattle.send.specs.History.{Shot, unwritten, shotsOf, history, frames}
-use Rattle.send.proofs.Bytes.{entry-frames, joined, Outcome, taken, kept, outcome, next-frames}
-
-apart : _≡_ {A = ℕ} 0 1 → ⊥
-apart z = omega arith
+use Rattle.send.proofs.Bytes.{apart, entry-frames, joined, Outcome, taken, kept, outcome, next-frames}
 
 module _ (bound : ℕ) (s : Transfer) (h : List Entry) (i : Inv bound s (view h)) where
   -- what is claimed of a frame call that did st

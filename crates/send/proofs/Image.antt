@@ -22,7 +22,7 @@ use Rattle.send.proofs.Demand.{demand-3}
 
 -- offset and length alone go through the view
 framed : ViewOf Shot → View
-framed v = record { acked = map frameOf (v .acked); waiting = map frameOf (v .waiting); attempt = map frameOf (v .attempt); good = map frameOf (v .good); nak = v .nak }
+framed v = record { acked = map frameOf (v .acked); waiting = map frameOf (v .waiting); attempt = map frameOf (v .attempt); good = map frameOf (v .good); nak = v .nak; resend = v .resend }
 
 closed : (w : List Shot) (v : ViewOf Shot) → closeBy (map frameOf w) (framed v) ≡ framed (closeBy w v)
 unfolding framed
@@ -36,17 +36,17 @@ closed (f ∷ fs) v = refl
 noted : (e : EntryOf Shot) (v : ViewOf Shot) → note (entryOf e) (framed v) ≡ framed (note e v)
 unfolding framed
 noted started v = refl
-noted (sent f) v = λ i. record { acked = map frameOf (v .acked); waiting = sym (map-append frameOf (v .waiting) (f ∷ [])) i; attempt = frameOf f ∷ map frameOf (v .attempt); good = map frameOf (v .good); nak = v .nak }
+noted (sent f) v = λ i. record { acked = map frameOf (v .acked); waiting = sym (map-append frameOf (v .waiting) (f ∷ [])) i; attempt = frameOf f ∷ map frameOf (v .attempt); good = map frameOf (v .good); nak = v .nak; resend = v .resend }
 noted acked v = by (v .waiting)
   where
     by : (w : List Shot) → popAck (map frameOf w) (framed v) ≡ framed (popAck w v)
     by [] = refl
-    by (f ∷ fs) = closed fs (record { acked = f ∷ v .acked; waiting = fs; attempt = v .attempt; good = f ∷ v .good; nak = v .nak })
+    by (f ∷ fs) = closed fs (record { acked = f ∷ v .acked; waiting = fs; attempt = v .attempt; good = f ∷ v .good; nak = v .nak; resend = v .resend })
 noted naked v = by (v .waiting)
   where
     by : (w : List Shot) → popNak (map frameOf w) (framed v) ≡ framed (popNak w v)
     by [] = refl
-    by (f ∷ fs) = closed fs (record { acked = v .acked; waiting = fs; attempt = v .attempt; good = v .good; nak = true })
+    by (f ∷ fs) = closed fs (record { acked = v .acked; waiting = fs; attempt = v .attempt; good = v .good; nak = true; resend = v .resend })
 noted timedOut v = refl
 noted wasLost v = refl
 noted ended v = refl
@@ -90,11 +90,11 @@ module _ (P : Shot → Type 0) where
 
   after-ack : (w : List Shot) (v : ViewOf Shot) → All w → Both v → Both (popAck w v)
   after-ack [] v a b = b
-  after-ack (f ∷ fs) v a b = after-close fs (record { acked = f ∷ v .acked; waiting = fs; attempt = v .attempt; good = f ∷ v .good; nak = v .nak }) (record { ours = (a .0, b .ours); due = a .1 })
+  after-ack (f ∷ fs) v a b = after-close fs (record { acked = f ∷ v .acked; waiting = fs; attempt = v .attempt; good = f ∷ v .good; nak = v .nak; resend = v .resend }) (record { ours = (a .0, b .ours); due = a .1 })
 
   after-nak : (w : List Shot) (v : ViewOf Shot) → All w → Both v → Both (popNak w v)
   after-nak [] v a b = b
-  after-nak (f ∷ fs) v a b = after-close fs (record { acked = v .acked; waiting = fs; attempt = v .attempt; good = v .good; nak = true }) (record { ours = b .ours; due = a .1 })
+  after-nak (f ∷ fs) v a b = after-close fs (record { acked = v .acked; waiting = fs; attempt = v .attempt; good = v .good; nak = true; resend = v .resend }) (record { ours = b .ours; due = a .1 })
 
   both : (h : List (EntryOf Shot)) → Went h → Both (view h)
   both [] w = record { ours = tt; due = tt }

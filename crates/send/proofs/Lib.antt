@@ -3,4 +3,5 @@ pub mod Laws
 pub mod Bytes
 pub mod Demand
 pub mod Image
+pub mod Pointer
 pub mod Plain

@@ -13,27 +13,28 @@ use Rattle.transfer.specs.Log.{nextFrame}
 use Rattle.transfer.specs.History.{Frame, EntryOf, started, sent, acked, naked, timedOut, wasLost, ended, Entry, entries}
 use Rattle.transfer.specs.declared.Transfer.{Transfer}
 use Rattle.transfer.specs.declared.Answer.{Answer}
-use Rattle.send.specs.Send.{headOf, nextBytes}
+use Rattle.send.specs.Send.{changingOf, headOf, nextBytes}
 use Rattle.send.specs.Calls.{Call, plain, next, stepOf}
 
--- what is known of a frame that went: where its data lies, how long it is, and the data
+-- what is known of a frame that went: where its data lies, how long it is, its changing data pointer, and the data
 pub record Shot : Type 0 where
   pub at : ℕ
   pub len : ℕ
+  pub changing : ℕ
   pub bytes : List ℕ
 
 -- what the DATA reader finds in the bytes of a frame
 abbrev pub found : DataRead → List ℕ → Shot
-found (Data f) frame = record { at = f .head .offset; len = f .length; bytes = take (f .length) (drop 24 frame) }
-found (NotData k) frame = record { at = 0; len = 0; bytes = [] }
+found (Data f) frame = record { at = f .head .offset; len = f .length; changing = f .head .changing; bytes = take (f .length) (drop 24 frame) }
+found (NotData k) frame = record { at = 0; len = 0; changing = 0; bytes = [] }
 
 -- a call with n bytes of data writes a frame to the front of its output
 abbrev pub written : ℕ → List ℕ → Shot
 written n out = found (readData (take (frameEnd n) out)) (take (frameEnd n) out)
 
--- the frame that a plain frame call sends, of whose bytes nothing is known
+-- the frame that a plain frame call sends, of whose bytes nothing is known but what they are to say
 abbrev pub unwritten : Transfer → Shot
-unwritten s = record { at = nextFrame s .at; len = nextFrame s .len; bytes = [] }
+unwritten s = record { at = nextFrame s .at; len = nextFrame s .len; changing = changingOf s; bytes = [] }
 
 -- 01 READ.7: The history holds each frame with the offset in its header and its data length.
 abbrev pub shotsOf : ℕ → Call → Transfer → List (EntryOf Shot)

@@ -2,14 +2,14 @@
 -- read offset is in one of them or was ACKed before, and so the last ACK makes all of it sure; in drain a frame of the attempt is
 -- missing, and nothing is moved. Any call keeps this. Assumes nothing.
 use Prim.Native.Nat.{ℕ, suc, _+_, _-_, _≤_, _<_}
-use mathlib.Core.Bool.{true, false, cond}
+use mathlib.Core.Bool.{true, false, not, cond}
 use mathlib.Core.List.{List, [], _∷_, _++_}
 use mathlib.Core.Logic.{_⊎_, inl, inr, ⊎-elim}
 use mathlib.Core.Path.{_≡_, refl, sym, ap, subst, subst⁻¹, _∙_}
 use native.Mathlib.Omega.{arith}
-use lib.Dec.{leb, eqb}
+use lib.Dec.{ltb, leb, eqb}
 use lib.ListN.{length, length-append}
-use borrow.Author.Tests.{eqb-true, eqb-false, leb-false, not-false}
+use borrow.Author.Tests.{eqb-true, eqb-false, leb-false, lt-ltb, not-false}
 use Rattle.laws.proofs.Bools.{by-test}
 use Rattle.laws.proofs.Tests.{below-or-not}
 use Rattle.refusals.specs.Causes.{refuse}
@@ -19,7 +19,7 @@ use Rattle.transfer.specs.Steps.{unfinished, draining, started, frameLen
 use Rattle.transfer.specs.Steps.{drained, acked, naked, dropped, ended, inPhase, refused, with, say, startCauses, frameCauses, answerCauses}
 use Rattle.transfer.specs.Steps.{endCauses, startStep, frameStep, ackStep, nakStep, dropStep, endStep}
 use Rattle.transfer.specs.Calls.{Call, start, frame, ack, nak, timeout, lost, nexus, cancel, stepOf, run}
-use Rattle.transfer.specs.History.{Frame, Entry, entries, View, nothing, anew, note, view, Covered}
+use Rattle.transfer.specs.History.{Frame, Entry, entries, View, nothing, anew, note, none, view, Covered}
 use Rattle.transfer.specs.Log.{nextFrame, entriesOf, history}
 use Rattle.transfer.specs.History as past
 use Rattle.transfer.specs.declared.Transfer.{Transfer}
@@ -56,6 +56,8 @@ pub record Running (s : Transfer) (v : View) : Type 0 where
   pub out : (x : ℕ) → s .balance ≤ x → x < s .read → Covered x (v .acked) ⊎ Covered x (v .waiting)
   pub ends : EndsAt (v .attempt) (s .read)
   pub calm : v .nak ≡ false
+  pub begun : not (s .sent) ≡ none (v .attempt)
+  pub again : ltb 0 (s .used) ≡ v .resend
 
 pub record Drains (s : Transfer) (v : View) : Type 0 where
   pub count : length (v .waiting) ≡ s .unanswered
@@ -104,10 +106,10 @@ no-frame f fs e = let z : _≡_ {A = ℕ} 0 (suc (length fs)) = ap length e in a
 
 -- the oldest frame that waits answered, and fs left
 abbrev ackedTo : Frame → List Frame → View → View
-ackedTo f fs v = record { acked = f ∷ v .acked; waiting = fs; attempt = v .attempt; good = f ∷ v .good; nak = v .nak }
+ackedTo f fs v = record { acked = f ∷ v .acked; waiting = fs; attempt = v .attempt; good = f ∷ v .good; nak = v .nak; resend = v .resend }
 
 abbrev nakedTo : List Frame → View → View
-nakedTo fs v = record { acked = v .acked; waiting = fs; attempt = v .attempt; good = v .good; nak = true }
+nakedTo fs v = record { acked = v .acked; waiting = fs; attempt = v .attempt; good = v .good; nak = true; resend = v .resend }
 
 -- the invariant after a call c of s that is answered st, with the history h before it
 abbrev pub After : ℕ → Transfer → List Entry → Call → Stepped → Type 0
@@ -130,6 +132,8 @@ begins bound b n m r =
             out = λ x h k. absurd (omega arith);
             ends = tt;
             calm = refl;
+            begun = refl;
+            again = refl;
           };
     }
 
@@ -190,6 +194,8 @@ module _ (bound : ℕ) (s : Transfer) (v : View) (i : Inv bound s v) where
             (below-or-not x (s .read));
         ends = refl;
         calm = r .calm;
+        begun = refl;
+        again = r .again;
       })
 
   -- the attempt begins anew, with nothing unanswered
@@ -207,6 +213,8 @@ module _ (bound : ℕ) (s : Transfer) (v : View) (i : Inv bound s v) where
         out = λ x h k. absurd (omega arith);
         ends = tt;
         calm = refl;
+        begun = refl;
+        again = lt-ltb 0 (s .used + 1) (omega arith);
       })
 
   -- the transfer is over, failed or ended
@@ -245,6 +253,8 @@ module _ (bound : ℕ) (s : Transfer) (v : View) (i : Inv bound s v) where
           out = λ x h k. ⊎-elim (λ a. inl (inr a)) (λ w. split x w) (r .out x h k);
           ends = r .ends;
           calm = r .calm;
+          begun = r .begun;
+          again = r .again;
         })
 
     -- an ACK in drain, with others to come
@@ -297,6 +307,8 @@ module _ (bound : ℕ) (s : Transfer) (v : View) (i : Inv bound s v) where
                 out = λ x h k. absurd (omega arith);
                 ends = r .ends;
                 calm = r .calm;
+                begun = r .begun;
+                again = r .again;
               });
         }
 

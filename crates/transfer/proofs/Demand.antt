@@ -1,10 +1,10 @@
 -- Demand 3 follows from what every call keeps: of the state and its history, and of one call more. Assumes nothing.
 use Prim.Native.Nat.{ℕ, _-_, _≤_, _<_}
-use mathlib.Core.Bool.{Bool, true, false}
+use mathlib.Core.Bool.{Bool, true, false, not, _&&_}
 use mathlib.Core.List.{List, [], _∷_, _++_}
 use mathlib.Core.Path.{_≡_, refl, sym, ap, subst, _∙_}
 use native.Mathlib.Omega.{arith}
-use lib.Dec.{leb, eqb}
+use lib.Dec.{ltb, leb, eqb}
 use lib.ListN.{length}
 use borrow.Author.Tests.{not-false}
 use Rattle.laws.proofs.Bools.{never, by-test, impossible}
@@ -13,7 +13,7 @@ use Rattle.transfer.specs.Steps.{unfinished, draining, started, frameLen
 use Rattle.transfer.specs.Steps.{ended, refused, say, startCauses, frameCauses, answerCauses, endCauses, startStep, frameStep, ackStep, nakStep}
 use Rattle.transfer.specs.Steps.{dropStep, endStep}
 use Rattle.transfer.specs.Calls.{Call, start, frame, ack, nak, timeout, lost, nexus, cancel, stepOf, run}
-use Rattle.transfer.specs.History.{Frame, Entry, sent, entryOf, isRefused, entries, view, Covered}
+use Rattle.transfer.specs.History.{Frame, Entry, sent, entryOf, isRefused, entries, view, firstResent, Covered}
 use Rattle.transfer.specs.Log.{nextFrame, entriesOf, history}
 use Rattle.transfer.specs.Demand.{Demand3}
 use Rattle.transfer.specs.declared.Transfer.{Transfer}
@@ -95,7 +95,7 @@ module _ (bound : ℕ) (s : Transfer) where
       by-causes (λ (st : Stepped). Goes s (entries frame (nextFrame s) (st .answer))) (refused s) (λ k. nothing-goes s) (frameCauses bound s) (framed (frameLength s) s)
       (λ off f e. (run-phase (s .phase) (not-false _ (off .1 .0)) (off .1 .1 .0), (cc)))
 
-  goes : (c : Call) → Goes s (entriesOf bound c s)
+  pub goes : (c : Call) → Goes s (entriesOf bound c s)
   goes (start b n m r) = no-frame-goes s (start b n m r) (stepOf bound (start b n m r) s .answer) (λ f e. apart (cc))
   goes frame = frame-goes
   goes ack = no-frame-goes s ack (stepOf bound ack s .answer) (λ f e. apart (cc))
@@ -128,6 +128,10 @@ module _ (bound : ℕ) (s : Transfer) (h : List Entry) (i : Inv bound s (view h)
       let j : 0 ≡ length (onto (view h .waiting) (view h .good)) = ap length (sym none ∙ r .joined) in
       let c = r .count in
       r .idle (omega arith)
+
+  -- a frame that goes now is the first of a resend exactly if a resend was used and no frame sent
+  pub first-again : s .phase ≡ Phase.Run → (ltb 0 (s .used) && not (s .sent)) ≡ firstResent (view h)
+  first-again p = let r = running bound s (view h) i p in λ j. r .again j && r .begun j
 
   all-acked : s .phase ≡ Phase.Run → s .unanswered ≡ 0 → view h .good ≡ view h .attempt
   all-acked p z =

@@ -1,7 +1,7 @@
 -- Document 01, 'Read transfer': the history of a transfer, and what it says of the frames. It is read from the calls that were taken
 -- and from the frames that went alone: no state is read here, and of an answer only whether it is a refusal. Assumes nothing.
 use Prim.Native.Nat.{ℕ, suc, _+_, _≤_, _<_}
-use mathlib.Core.Bool.{Bool, true, false, cond}
+use mathlib.Core.Bool.{Bool, true, false, cond, _&&_}
 use mathlib.Core.List.{List, [], _∷_, _++_}
 use mathlib.Core.Logic.{_⊎_}
 use Rattle.transfer.specs.Calls.{Call, start, frame, ack, nak, timeout, lost, nexus, cancel}
@@ -57,16 +57,18 @@ pub record ViewOf (F : Type 0) : Type 0 where
   pub good : List F
   -- whether a NAK was reported in the present attempt
   pub nak : Bool
+  -- whether the present attempt is a resend
+  pub resend : Bool
 
 abbrev pub View : Type 0
 View = ViewOf Frame
 
 abbrev pub nothing : {F : Type 0} → ViewOf F
-nothing = record { acked = []; waiting = []; attempt = []; good = []; nak = false }
+nothing = record { acked = []; waiting = []; attempt = []; good = []; nak = false; resend = false }
 
--- another attempt; no frame of the old one is waited for
+-- another attempt, a resend; no frame of the old one is waited for
 abbrev pub anew : {F : Type 0} → ViewOf F → ViewOf F
-anew v = record { acked = v .acked; waiting = []; attempt = []; good = []; nak = false }
+anew v = record { acked = v .acked; waiting = []; attempt = []; good = []; nak = false; resend = true }
 
 -- an attempt ends once a NAK was reported and none is unanswered
 abbrev pub closeBy : {F : Type 0} → List F → ViewOf F → ViewOf F
@@ -79,15 +81,15 @@ close v = closeBy (v .waiting) v
 -- 01 READ.3: Answers belong to the oldest unanswered frame.
 abbrev pub popAck : {F : Type 0} → List F → ViewOf F → ViewOf F
 popAck [] v = v
-popAck (f ∷ fs) v = close (record { acked = f ∷ v .acked; waiting = fs; attempt = v .attempt; good = f ∷ v .good; nak = v .nak })
+popAck (f ∷ fs) v = close (record { acked = f ∷ v .acked; waiting = fs; attempt = v .attempt; good = f ∷ v .good; nak = v .nak; resend = v .resend })
 
 abbrev pub popNak : {F : Type 0} → List F → ViewOf F → ViewOf F
 popNak [] v = v
-popNak (f ∷ fs) v = close (record { acked = v .acked; waiting = fs; attempt = v .attempt; good = v .good; nak = true })
+popNak (f ∷ fs) v = close (record { acked = v .acked; waiting = fs; attempt = v .attempt; good = v .good; nak = true; resend = v .resend })
 
 abbrev pub note : {F : Type 0} → EntryOf F → ViewOf F → ViewOf F
 note started v = nothing
-note (sent f) v = record { acked = v .acked; waiting = v .waiting ++ (f ∷ []); attempt = f ∷ v .attempt; good = v .good; nak = v .nak }
+note (sent f) v = record { acked = v .acked; waiting = v .waiting ++ (f ∷ []); attempt = f ∷ v .attempt; good = v .good; nak = v .nak; resend = v .resend }
 note acked v = popAck (v .waiting) v
 note naked v = popNak (v .waiting) v
 note timedOut v = anew v
@@ -98,6 +100,14 @@ note ended v = v
 abbrev pub view : {F : Type 0} → List (EntryOf F) → ViewOf F
 view [] = nothing
 view (e ∷ older) = note e (view older)
+
+abbrev pub none : {F : Type 0} → List F → Bool
+none [] = true
+none (f ∷ fs) = false
+
+-- whether a frame that goes now is the first of a resend
+abbrev pub firstResent : {F : Type 0} → ViewOf F → Bool
+firstResent v = v .resend && none (v .attempt)
 
 -- how many frames went since the last START
 abbrev pub framesSent : {F : Type 0} → List (EntryOf F) → ℕ
