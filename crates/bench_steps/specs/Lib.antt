@@ -1,2 +1,3 @@
 -- What the bench's calls do.
 pub mod Rounds
+pub mod Calls

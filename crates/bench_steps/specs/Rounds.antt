@@ -5,6 +5,7 @@ use mathlib.Core.Path.{_≡_}
 use Rattle.transfer.specs.Rules.{before}
 use Rattle.transfer.specs.Steps.{bound64, startStep, frameStep, ackStep}
 use Rattle.transfer.specs.declared.Transfer.{Transfer}
+use Rattle.transfer.specs.declared.Stepped.{Stepped}
 use Rattle.send.specs.Send.{headOf, nextStep, nextBytes}
 
 -- f so many times over
@@ -12,9 +13,12 @@ abbrev pub times : {A : Type 0} → (A → A) → ℕ → A → A
 times f zero a = a
 times f (suc k) a = f (times f k a)
 
+abbrev pub startWith : ℕ → ℕ → ℕ → ℕ → Stepped
+startWith b n m r = startStep bound64 b n m r before
+
 -- the state that START leaves
 abbrev pub startedWith : ℕ → ℕ → ℕ → ℕ → Transfer
-startedWith b n m r = startStep bound64 b n m r before .state
+startedWith b n m r = startWith b n m r .state
 
 -- a step that is refused leaves the state
 abbrev pub frameOf : Transfer → Transfer
@@ -27,21 +31,27 @@ ackOf s = ackStep bound64 s .state
 abbrev pub turnOf : Transfer → Transfer
 turnOf s = ackOf (frameOf s)
 
--- a state, and the output that its frames go to
-pub record Writing : Type 0 where
-  pub state : Transfer
+-- what the last call answered and left, and the output after it
+pub record Said : Type 0 where
+  pub stepped : Stepped
   pub out : List ℕ
 
-abbrev pub writing : Transfer → List ℕ → Writing
-writing s out = record { state = s; out = out }
+abbrev pub said : Stepped → List ℕ → Said
+said stepped out = record { stepped = stepped; out = out }
 
 -- a next-frame call
-abbrev pub nextOf : ℕ → ℕ → ℕ → List ℕ → Writing → Writing
+abbrev pub nextOf : ℕ → ℕ → ℕ → List ℕ → Said → Said
 nextOf destination source tag body w =
-    let h = headOf (w .state) destination source tag in
-    writing (nextStep bound64 (w .state) h body (w .out) .state) (nextBytes bound64 (w .state) h body (w .out))
+    let s = w .stepped .state in
+    let h = headOf s destination source tag in
+    said (nextStep bound64 s h body (w .out)) (nextBytes bound64 s h body (w .out))
 
--- what a call that ends at w promises of its answer r and of the output as it leaves it
-pub record Left (w : Writing) (r : ℕ) (after : List ℕ) : Type 0 where
-  pub answer : r ≡ w .state .read
+-- what calls that end at w promise of their last step r and of the output as they leave it
+pub record Did (w : Said) (r : Stepped) (after : List ℕ) : Type 0 where
+  pub step : r ≡ w .stepped
+  pub bytes : after ≡ w .out
+
+-- the same of the read offset r
+pub record Left (w : Said) (r : ℕ) (after : List ℕ) : Type 0 where
+  pub answer : r ≡ w .stepped .state .read
   pub bytes : after ≡ w .out

@@ -1,13 +1,24 @@
-// What the bench measures: the steps of document 01, 'Read transfer', over and over from one START. C lends no enum, so a state
-// stays within a call.
+// What the bench measures, and the tests call besides: the steps of document 01, 'Read transfer', over and over from one START. C lends
+// no enum, so a state stays within a call.
 ghost use mathlib.Core.Path.{_≡_};
-ghost use Rattle.bench_steps.specs.Rounds.{times, startedWith, frameOf, ackOf, turnOf, writing, nextOf, Left};
+ghost use Rattle.transfer.specs.Steps.{bound64};
+ghost use Rattle.transfer.specs.Calls.{stepOf};
+ghost use Rattle.bench_steps.specs.Rounds.{times, startWith, startedWith, frameOf, ackOf, turnOf, said, nextOf, Did, Left};
+ghost use Rattle.bench_steps.specs.Calls.{plainOf, callOf, afterAll, spoken, Told};
+use transfer::Answer;
+use transfer::Stepped;
 use transfer::Transfer;
+
+fn start(b: u32, n: u32, m: u32, r: u32) -> Stepped
+    ensures { λ st. ⌜ st ≡ startWith b n m r ⌝ }
+{
+    Transfer::unstarted().start(b, n, m, r)
+}
 
 fn started(b: u32, n: u32, m: u32, r: u32) -> Transfer
     ensures { λ s. ⌜ s ≡ startedWith b n m r ⌝ }
 {
-    let stepped = Transfer::unstarted().start(b, n, m, r);
+    let stepped = start(b, n, m, r);
     stepped.state
 }
 
@@ -47,6 +58,28 @@ fn all_acked(mut s: Transfer, rounds: u32) -> Transfer
         i += 1;
     }
     s
+}
+
+// So many next-frame calls, all with the same data and output. The loop stands here alone, so that the call is made part of it.
+fn all_next(
+    first: Stepped,
+    rounds: u32,
+    destination: u32,
+    source: u32,
+    tag: u16,
+    body: &[u8],
+    out: &mut [u8],
+) -> Stepped
+    ensures { λ a. ⌜ Did (times (nextOf destination source tag (now (body .entry))) rounds (said first (now (out .entry)))) a (now (out .exit)) ⌝ }
+{
+    let mut last = first;
+    let mut i: u32 = 0;
+    while i < rounds {
+        let s = last.state;
+        last = send::next_frame(s, destination, source, tag, body, out);
+        i += 1;
+    }
+    last
 }
 
 // START and frames; the read offset then.
@@ -95,14 +128,104 @@ pub extern "C" fn bench_next(
     body: &[u8],
     out: &mut [u8],
 ) -> u32
-    ensures { λ a. ⌜ Left (times (nextOf destination source tag (now (body .entry))) rounds (writing (startedWith b n m r) (now (out .entry)))) a (now (out .exit)) ⌝ }
+    ensures { λ a. ⌜ Left (times (nextOf destination source tag (now (body .entry))) rounds (said (startWith b n m r) (now (out .entry)))) a (now (out .exit)) ⌝ }
 {
-    let mut s = started(b, n, m, r);
-    let mut i: u32 = 0;
-    while i < rounds {
-        let stepped = send::next_frame(s, destination, source, tag, body, out);
-        s = stepped.state;
+    let last = all_next(
+        start(b, n, m, r),
+        rounds,
+        destination,
+        source,
+        tag,
+        body,
+        out,
+    );
+    let s = last.state;
+    s.read
+}
+
+fn plain(s: Transfer, call: u8) -> Stepped
+    ensures { λ a. ⌜ a ≡ stepOf bound64 (plainOf call) s ⌝ }
+{
+    match call {
+        0 => {
+            return s.frame();
+        }
+        1 => {
+            return s.ack();
+        }
+        2 => {
+            return s.nak();
+        }
+        3 => {
+            return s.timeout();
+        }
+        4 => {
+            return s.lost();
+        }
+        5 => {
+            return s.nexus();
+        }
+        _ => {
+            return s.cancel();
+        }
+    }
+}
+
+fn called(
+    last: Stepped,
+    call: u8,
+    destination: u32,
+    source: u32,
+    tag: u16,
+    body: &[u8],
+    out: &mut [u8],
+) -> Stepped
+    ensures { λ a. ⌜ Did (callOf destination source tag (now (body .entry)) call (said last (now (out .entry)))) a (now (out .exit)) ⌝ }
+{
+    if call < 7 {
+        let s = last.state;
+        return plain(s, call);
+    }
+    all_next(last, 1, destination, source, tag, body, out)
+}
+
+fn number(a: Answer) -> u8
+    ensures { λ r. ⌜ r ≡ spoken a ⌝ }
+{
+    match a {
+        Answer::Ok => 11,
+        Answer::Sent => 12,
+        Answer::Drain => 13,
+        Answer::Retry => 14,
+        Answer::Done => 15,
+        Answer::Fail => 16,
+        Answer::End => 17,
+        Answer::Refused(k) => refusals::number(k),
+    }
+}
+
+// START, and a call for each byte of `calls`, all with the same data and output; what the last one said, as a number.
+#[no_mangle]
+pub extern "C" fn bench_calls(
+    b: u32,
+    n: u32,
+    m: u32,
+    r: u32,
+    calls: &[u8],
+    destination: u32,
+    source: u32,
+    tag: u16,
+    body: &[u8],
+    out: &mut [u8],
+) -> u8
+    ensures { λ a. ⌜ Told (afterAll destination source tag (now (body .entry)) (now (calls .entry)) (said (startWith b n m r) (now (out .entry)))) a (now (out .exit)) ⌝ }
+{
+    let mut last = start(b, n, m, r);
+    let mut i = 0;
+    while i < calls.len() {
+        last = called(last, calls[i] % 8, destination, source, tag, body, out);
         i += 1;
     }
-    s.read
+    let answer = last.answer;
+    number(answer)
 }

@@ -209,6 +209,8 @@ use Rattle.bench_steps.proofs.bench_turns.Kinds as bench-turns-of
 use Rattle.bench_steps.proofs.bench_turns.Reads as bench-turns
 use Rattle.bench_steps.proofs.bench_next.Kinds as bench-next-of
 use Rattle.bench_steps.proofs.bench_next.Reads as bench-next
+use Rattle.bench_steps.proofs.bench_calls.Kinds as bench-calls-of
+use Rattle.bench_steps.proofs.bench_calls.Reads as bench-calls
 use Rattle.bench_links.proofs.bench_links.Kinds as bench-links-of
 use Rattle.bench_links.proofs.bench_links.Reads as bench-links
 use Rattle.bench_ports.proofs.port_setup as port-setup
@@ -335,6 +337,7 @@ pub record Total : Type 2 where
   pub bench-acks : Anything 0 bench-acks-of.ps bench-acks.Pre
   pub bench-turns : Anything 0 bench-turns-of.ps bench-turns.Pre
   pub bench-next : Anything 2 bench-next-of.ps bench-next.Pre
+  pub bench-calls : Anything 3 bench-calls-of.ps bench-calls.Pre
   pub bench-links : Anything 1 bench-links-of.ps bench-links.Pre
   pub port-setup : AsksNothing port-setup.ended (λ M. port-setup.spec)
   pub port-submit : AsksNothing port-submit.ended (λ M. port-submit.spec)
@@ -456,6 +459,7 @@ total = record {
   bench-acks = λ κs a. tt;
   bench-turns = λ κs a. tt;
   bench-next = λ κs a. tt;
+  bench-calls = λ κs a. tt;
   bench-links = λ κs a. tt;
   port-setup = λ w κs a. (tt, refl);
   port-submit = λ w κs a. (tt, refl);

@@ -217,6 +217,8 @@ use Rattle.bench_steps.proofs.bench_turns.Kinds as bench-turns-of
 use Rattle.bench_steps.proofs.bench_turns.Reads as bench-turns
 use Rattle.bench_steps.proofs.bench_next.Kinds as bench-next-of
 use Rattle.bench_steps.proofs.bench_next.Reads as bench-next
+use Rattle.bench_steps.proofs.bench_calls.Kinds as bench-calls-of
+use Rattle.bench_steps.proofs.bench_calls.Reads as bench-calls
 use Rattle.bench_links.proofs.bench_links.Kinds as bench-links-of
 use Rattle.bench_links.proofs.bench_links.Reads as bench-links
 use Rattle.bench_ports.proofs.port_setup as port-setup
@@ -285,6 +287,9 @@ sas-data-write-left κs s = now (s .1 .1 .1 .1 .1 .1 .0)
 
 abbrev bench-next-left : (κs : Lifetimes.Lfts 2) → Clauses.AtExit (kinds.endedOf 2 bench-next-of.ps bench-next-of.r) κs → List ℕ
 bench-next-left κs s = now (s .1 .1 .1 .1 .1 .1 .1 .1 .1 .0)
+
+abbrev bench-calls-left : (κs : Lifetimes.Lfts 3) → Clauses.AtExit (kinds.endedOf 3 bench-calls-of.ps bench-calls-of.r) κs → List ℕ
+bench-calls-left κs s = now (s .1 .1 .1 .1 .1 .1 .1 .1 .1 .0)
 
 -- 01 PROMISE.1: Each public function's promise determines its answer, new state and each lent byte, on refusals too.
 -- 01 PROMISE.2: Prove that it admits no second answer; list exceptions in docs/ and why.
@@ -397,6 +402,7 @@ pub record Unique : Type 2 where
   pub bench-acks : One 0 bench-acks-of.ps bench-acks-of.r (none 0 bench-acks-of.ps bench-acks-of.r) bench-acks.Post
   pub bench-turns : One 0 bench-turns-of.ps bench-turns-of.r (none 0 bench-turns-of.ps bench-turns-of.r) bench-turns.Post
   pub bench-next : One 2 bench-next-of.ps bench-next-of.r bench-next-left bench-next.Post
+  pub bench-calls : One 3 bench-calls-of.ps bench-calls-of.r bench-calls-left bench-calls.Post
   pub bench-links : One 1 bench-links-of.ps bench-links-of.r (none 1 bench-links-of.ps bench-links-of.r) bench-links.Post
   pub port-setup : OneEnd port-setup.ended (λ M. port-setup.spec) (λ κs e. now (e .0))
   pub port-submit : OneEnd port-submit.ended (λ M. port-submit.spec) (λ κs e. now (e .0))
@@ -518,6 +524,7 @@ unique = record {
   bench-acks = λ κs a x y s t p q. (p ∙ sym q, refl);
   bench-turns = λ κs a x y s t p q. (p ∙ sym q, refl);
   bench-next = λ κs a x y s t p q. (p .answer ∙ sym (q .answer), p .bytes ∙ sym (q .bytes));
+  bench-calls = λ κs a x y s t p q. (p .answer ∙ sym (q .answer), p .bytes ∙ sym (q .bytes));
   bench-links = λ κs a x y s t p q. (p ∙ sym q, refl);
   port-setup = ((λ κs a r e. Told (now (a .0)) (setupCall (now (a .0)) (a .1 .0) (a .1 .1 .0)) (shortSetup (a .1 .0)) r (now (e .0))), (record { is = λ w κs a g r. refl }, λ κs a x y s t p q. (p .0 ∙ sym (q .0), p .1 ∙ sym (q .1))));
   port-submit = ((λ κs a r e. Told (now (a .0)) (submitCall (now (a .0)) (a .1 .0) (a .1 .1 .0)) (short (a .1 .0)) r (now (e .0))), (record { is = λ w κs a g r. refl }, λ κs a x y s t p q. (p .0 ∙ sym (q .0), p .1 ∙ sym (q .1))));

@@ -1,12 +1,11 @@
 -- The state is the step's. Assumes nothing.
 use mathlib.Core.Path.{ap}
-use borrow.Author.Needs.{needs}
 use Rattle.transfer.specs.declared.Stepped.{Stepped}
 use Rattle.bench_steps.proofs.acked.Statement.{statement}
 use Rattle.bench_steps.proofs.acked.Tie as tie
 
 ack-requires : tie.Need-ack-requires
-ack-requires c κs = search needs
+ack-requires c κs = tt
 
 returns : tie.Need-returns
 returns c = ap (λ (st : Stepped). st .state) (c .before .ack .ensures)

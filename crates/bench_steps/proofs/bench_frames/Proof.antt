@@ -1,16 +1,15 @@
 -- The state is that after the frames from START on. Assumes nothing.
 use mathlib.Core.Path.{ap, _∙_}
-use borrow.Author.Needs.{needs}
 use Rattle.transfer.specs.declared.Transfer.{Transfer}
 use Rattle.bench_steps.specs.Rounds.{times, frameOf}
 use Rattle.bench_steps.proofs.bench_frames.Statement.{statement}
 use Rattle.bench_steps.proofs.bench_frames.Tie as tie
 
 started-requires : tie.Need-started-requires
-started-requires c κs = search needs
+started-requires c κs = tt
 
 all-framed-requires : tie.Need-all-framed-requires
-all-framed-requires c κs = search needs
+all-framed-requires c κs = tt
 
 returns : tie.Need-returns
 returns c =

@@ -1,12 +1,11 @@
 -- The state is the step's. Assumes nothing.
 use mathlib.Core.Path.{ap}
-use borrow.Author.Needs.{needs}
 use Rattle.transfer.specs.declared.Stepped.{Stepped}
 use Rattle.bench_steps.proofs.framed.Statement.{statement}
 use Rattle.bench_steps.proofs.framed.Tie as tie
 
 frame-requires : tie.Need-frame-requires
-frame-requires c κs = search needs
+frame-requires c κs = tt
 
 returns : tie.Need-returns
 returns c = ap (λ (st : Stepped). st .state) (c .before .frame .ensures)
