@@ -61,7 +61,6 @@ static enum said resend(struct model *t)
 	return SAID_RETRY;
 }
 
-/* 01 READ.15 */
 static enum said finish(struct model *t, enum said word)
 {
 	t->running = false;

@@ -16,7 +16,7 @@ use Rattle.transfer.specs.declared.Stepped.{Stepped}
 use Rattle.transfer.specs.declared.Answer.{Answer}
 use Rattle.transfer.specs.declared.Phase.{Phase}
 use Rattle.transfer.specs.Calls as plainly
-use Rattle.transfer.proofs.Stuck.{Finishes, unstuck}
+use Rattle.transfer.proofs.Stuck.{unstuck}
 use Rattle.send.specs.Calls.{Call, stepOf, run, Typed, AllTyped}
 use Rattle.send.specs.History.{Shot, shotsOf, history, frames, FromImage, AllFromImage, Shown}
 use Rattle.send.proofs.Demand.{demand-3}
@@ -72,7 +72,7 @@ pub record Balance : Type 0 where
   -- payloads that the DATA reader finds in the ACKed frames' bytes cover the request, byte for byte of that image
   pub image : (r : Run) (image : List ℕ) → AllFromImage image bound64 (r .calls) before → FromImage image (r .last) (now r) → next r .answer ≡ Answer.Done → (x : ℕ) → now r .offset ≤ x → x < endOf (now r) → Shown image x (view (shotsOf bound64 (r .last) (now r) ++ history bound64 (r .calls) before []) .acked)
   -- no stuck state: from every unfinished state some calls reach done
-  pub unstuck : (s : Transfer) → plainly.Reachable bound64 s → unfinished (s .phase) ≡ true → Finishes bound64 s
+  pub unstuck : (s : Transfer) → plainly.Reachable bound64 s → unfinished (s .phase) ≡ true → plainly.Finishes bound64 s
   -- no endless sending: at most (R+1) times ⌈N/M⌉ frames go for one START
   pub ends : (r : Run) → framesSent (past r) ≤ (now r .resends + 1) * framesIn (now r .count) (now r .size)
 

@@ -14,16 +14,16 @@ use Rattle.refusals.specs.Causes.{Wrote}
 use Rattle.refusals.specs.declared.Written.{Written}
 use Rattle.refusals.specs.declared.Written.the-variants.{Done}
 use Rattle.refusals.proofs.Frames.{done-wrote, wrote-is}
-use Rattle.open_frame.specs.Open.{openBytes, notCarried, cleared, headListed, readOpen, writeCauses as openWrites}
+use Rattle.open_frame.specs.Open.{openBytes, notCarried, cleared, headListed, Widths, readOpen, writeCauses as openWrites}
 use Rattle.open_frame.specs.declared.OpenFrame.{OpenFrame}
 use Rattle.open_frame.specs.declared.OpenRead.the-variants.{Frame as Open}
-use Rattle.open_frame.proofs.Trip.{Widths, read-written as open-back, written-read as open-forth, found as open-found}
-use Rattle.ssp_frame.specs.Data.{frameEnd, dataBytes, dataSized, dataListed, readData, writeCauses as dataWrites}
+use Rattle.open_frame.proofs.Trip.{read-written as open-back, written-read as open-forth, found as open-found}
+use Rattle.ssp_frame.specs.Data.{frameEnd, dataBytes, dataSized, dataListed, Typed, readData, writeCauses as dataWrites}
 use Rattle.ssp_frame.specs.declared.data.DataHead.{DataHead}
 use Rattle.ssp_frame.specs.declared.data.DataFrame.{DataFrame}
 use Rattle.ssp_frame.specs.declared.data.DataRead.the-variants.{Frame as Data}
 use Rattle.ssp_frame.proofs.Fields.{Listed, fitting, is-fitting, listed-is, is-listed}
-use Rattle.ssp_frame.proofs.Trip.{Typed, read-written as data-back, written-read as data-forth, fits, frame-long, body-held}
+use Rattle.ssp_frame.proofs.Trip.{read-written as data-back, written-read as data-forth, fits, frame-long, body-held}
 use Rattle.claims.specs.Causes.{Bytes}
 use Rattle.claims.proofs.Calls.{Outcome, ReadOpen, WriteOpen, ReadData, WriteData}
 

@@ -15,7 +15,7 @@ use Rattle.lines.specs.Numbers.{readNumber, decimal}
 use Rattle.lines.specs.Parts.{lf}
 use Rattle.lines.specs.declared.Number.the-variants.{Value}
 use Rattle.lines.proofs.Numbers.{read-written, written-read}
-use Rattle.runs.specs.Commands.{readLine, written}
+use Rattle.runs.specs.Commands.{readLine, written, Writable}
 use Rattle.runs.specs.Rows.{longestRow}
 use Rattle.runs.specs.Feed.{Carry, carryOf, runOf, fresh, saidAt, after, said, takes, takenOf, fedOf, closing, Feeds}
 use Rattle.runs.specs.Output.{outputOf}
@@ -23,7 +23,7 @@ use Rattle.runs.specs.declared.Command.{Command}
 use Rattle.runs.specs.declared.Command.the-variants.{Bad}
 use Rattle.runs.specs.declared.Run.{Run}
 use Rattle.runs.specs.declared.Fed.{Fed}
-use Rattle.runs.proofs.Inverse.{Writable, said-is, is-said}
+use Rattle.runs.proofs.Inverse.{said-is, is-said}
 use Rattle.runs.proofs.Carry.{after-append, said-append}
 use Rattle.runs.proofs.Output.{whole, carried, blocks, blocks-said}
 use Rattle.claims.proofs.Calls.{Outcome, ReadNumber, Fresh, Feed, Close}

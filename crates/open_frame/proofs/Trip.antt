@@ -13,20 +13,12 @@ use Rattle.laws.proofs.Lists.{spread-is}
 use Rattle.wire.proofs.Laws.{beAt-beBytes, beBytes-beAt}
 use Rattle.refusals.proofs.Frames.{by-none, passed}
 use Rattle.refusals.specs.declared.Refusal.{Refusal}
-use Rattle.open_frame.specs.Open.{byte0, byte1, openBytes, headOf, frameOf, notCarried, cleared, headListed, typed, readOpen}
+use Rattle.open_frame.specs.Open.{byte0, byte1, openBytes, headOf, frameOf, notCarried, cleared, headListed, Widths, typed, readOpen}
 use Rattle.open_frame.specs.declared.OpenFrame.{OpenFrame}
 use Rattle.open_frame.specs.declared.OpenRead.{OpenRead}
 use Rattle.open_frame.specs.declared.OpenRead.the-variants.{Frame, Refused}
 use Rattle.open_frame.proofs.Bytes.{Split, split, first-back, second-back}
 use Rattle.open_frame.proofs.Fields.{Listed, listed-is}
-
--- the numbers are those of their types
-pub record Widths (f : OpenFrame) : Type 0 where
-  pub tag : f .head .tag < 256 ^ 2
-  pub destination : f .head .destination < 256 ^ 8
-  pub source : f .head .source < 256 ^ 8
-  pub pbc : f .pbc .0 < 256
-  pub awt : f .awt .0 < 256 ^ 2
 
 frame-back : (f : OpenFrame) → headListed (f .head) ≡ true → Widths f → frameOf (openBytes f) ≡ f
 frame-back f ok w =

@@ -1,6 +1,6 @@
 -- Document 01, 'OPEN address frame, 28 bytes, big-endian': where each field stands, and what a reader and a writer answer.
 -- Assumes nothing.
-use Prim.Native.Nat.{ℕ, _+_, _*_, _/_, _%_}
+use Prim.Native.Nat.{ℕ, _+_, _*_, _/_, _%_, _^_, _<_}
 use mathlib.Core.Bool.{Bool, _&&_}
 use mathlib.Core.List.{List, [], _∷_}
 use lib.ListN.{length, getD, set}
@@ -66,6 +66,14 @@ cleared (i ∷ is) s = cleared is (set s i 0)
 -- protocol SMP, SSP or STP, rate 8, 9 or 10, and initiator and features no wider than their bits
 abbrev pub headListed : Head → Bool
 headListed h = ltb (h .initiator) 2 && (ltb (h .protocol) 3 && (ltb (h .features) 16 && (leb 8 (h .rate) && ltb (h .rate) 11)))
+
+-- the numbers are those of their types
+pub record Widths (f : OpenFrame) : Type 0 where
+  pub tag : f .head .tag < 256 ^ 2
+  pub destination : f .head .destination < 256 ^ 8
+  pub source : f .head .source < 256 ^ 8
+  pub pbc : f .pbc .0 < 256
+  pub awt : f .awt .0 < 256 ^ 2
 
 abbrev pub typed : List ℕ → Bool
 typed s = eqb (getD s 0 0 % 16) 1

@@ -15,7 +15,7 @@ use Rattle.lines.specs.declared.Number.{Number}
 use Rattle.lines.specs.declared.Number.the-variants.{Value, Not}
 use Rattle.lines.proofs.Numbers.{digit-range, decimal-digits, decimal-short, read-written, written-read}
 use Rattle.lines.proofs.Parts.{free, first-part, one-field, fields-joined, within, same-is}
-use Rattle.runs.specs.Commands.{START, FRAME, ACK, NAK, TIMEOUT, LOST, NEXUS, CANCEL, largest, longest, starting, named, commandOf, readLine, written}
+use Rattle.runs.specs.Commands.{START, FRAME, ACK, NAK, TIMEOUT, LOST, NEXUS, CANCEL, largest, longest, starting, named, commandOf, readLine, written, Writable}
 use Rattle.runs.specs.declared.Command.{Command}
 use Rattle.runs.specs.declared.Command.the-variants.{Start, Frame, Ack, Nak, Timeout, Lost, Nexus, Cancel, Bad}
 
@@ -98,18 +98,6 @@ module _ (b n m r : ℕ) (hb : b ≤ largest) (hn : n ≤ largest) (hm : m ≤ l
   start-said : readLine (written (Start b n m r)) ≡ Start b n m r
   unfolding readLine commandOf
   start-said = rw (within longest (written (Start b n m r)) start-short, start-fields, read-written largest b hb, read-written largest n hn, read-written largest m hm, read-written largest r hr)
-
--- the numbers of a command are those that a line can have
-abbrev pub Writable : Command → Type 0
-Writable (Start b n m r) = (b ≤ largest) × (n ≤ largest) × (m ≤ largest) × (r ≤ largest)
-Writable Frame = Unit {0}
-Writable Ack = Unit {0}
-Writable Nak = Unit {0}
-Writable Timeout = Unit {0}
-Writable Lost = Unit {0}
-Writable Nexus = Unit {0}
-Writable Cancel = Unit {0}
-Writable Bad = ⊥
 
 pub is-said : (c : Command) → Writable c → readLine (written c) ≡ c
 unfolding readLine commandOf

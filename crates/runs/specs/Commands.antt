@@ -1,5 +1,5 @@
 -- Document 01, 'Read transfer': what a line of input says. Assumes nothing.
-use Prim.Native.Nat.{ℕ}
+use Prim.Native.Nat.{ℕ, _≤_}
 use mathlib.Core.Bool.{Bool, true, false, cond}
 use mathlib.Core.List.{List, [], _∷_}
 use Rattle.lines.specs.Numbers.{readNumber, decimal}
@@ -94,6 +94,18 @@ written Lost = LOST
 written Nexus = NEXUS
 written Cancel = CANCEL
 written Bad = []
+
+-- the numbers of a command are those that a line can have
+abbrev pub Writable : Command → Type 0
+Writable (Start b n m r) = (b ≤ largest) × (n ≤ largest) × (m ≤ largest) × (r ≤ largest)
+Writable Frame = Unit {0}
+Writable Ack = Unit {0}
+Writable Nak = Unit {0}
+Writable Timeout = Unit {0}
+Writable Lost = Unit {0}
+Writable Nexus = Unit {0}
+Writable Cancel = Unit {0}
+Writable Bad = ⊥
 
 -- what it does to a transfer
 -- 01 TEXT.5: other lines and those over 255 bytes, LF not counted, are 2.

@@ -17,7 +17,7 @@ use Rattle.wire.proofs.Laws.{beAt-lt, zeros, zeros-behind, known-back}
 use Rattle.refusals.proofs.Frames.{by-none, passed}
 use Rattle.refusals.specs.declared.Refusal.{Refusal}
 use Rattle.ssp_frame.specs.Header.{headerFields, headerOf, blank}
-use Rattle.ssp_frame.specs.Data.{fillOf, frameEnd, dataHeader, dataBytes, frameSized, kindListed, filled, dataOf, readData}
+use Rattle.ssp_frame.specs.Data.{fillOf, frameEnd, dataHeader, dataBytes, Typed, frameSized, kindListed, filled, dataOf, readData}
 use Rattle.ssp_frame.specs.declared.header.Header.{Header}
 use Rattle.ssp_frame.specs.declared.data.DataHead.{DataHead}
 use Rattle.ssp_frame.specs.declared.data.DataFrame.{DataFrame}
@@ -25,11 +25,6 @@ use Rattle.ssp_frame.specs.declared.data.DataRead.{DataRead}
 use Rattle.ssp_frame.specs.declared.data.DataRead.the-variants.{Frame, Refused}
 use Rattle.ssp_frame.proofs.Fields.{Listed, Sized, sized, is-sized, Laid, laid, is-laid}
 use Rattle.ssp_frame.proofs.Heads.{Widths, header-back, header-forth}
-
--- the numbers that `Listed` leaves open are those of their types
-pub record Typed (h : DataHead) : Type 0 where
-  pub tag : h .tag < 256 ^ 2
-  pub offset : h .offset < 256 ^ 4
 
 widths : (h : DataHead) (fill : ℕ) → Listed h → Typed h → fill < 4 → Widths (dataHeader h fill)
 widths h fill l t few = record {

@@ -55,6 +55,11 @@ pub record PayloadFits (n fill m : ℕ) : Type 0 where
 abbrev pub dataListed : DataHead → Bool
 dataListed h = ltb (h .destination) (256 ^ 3) && (ltb (h .source) (256 ^ 3) && ltb (h .changing) 2)
 
+-- the numbers that `dataListed` leaves open are those of their types
+pub record Typed (h : DataHead) : Type 0 where
+  pub tag : h .tag < 256 ^ 2
+  pub offset : h .offset < 256 ^ 4
+
 abbrev pub writeCauses : DataHead → List ℕ → List ℕ → List Cause
 writeCauses h body out = frameCauses (dataSized (length body) (length out)) (dataListed h)
 

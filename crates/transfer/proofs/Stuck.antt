@@ -11,7 +11,7 @@ use borrow.Author.Tests.{ltb-true, ltb-false}
 use Rattle.laws.proofs.Bools.{impossible}
 use Rattle.transfer.specs.Rules.{endOf, frames, rules}
 use Rattle.transfer.specs.Steps.{unfinished}
-use Rattle.transfer.specs.Calls.{Call, frame, ack, timeout, stepOf, run, Reachable}
+use Rattle.transfer.specs.Calls.{Call, frame, ack, timeout, stepOf, run, Reachable, Finishes}
 use Rattle.transfer.specs.Grounds.{InRange}
 use Rattle.transfer.specs.declared.Transfer.{Transfer}
 use Rattle.transfer.specs.declared.Phase.{Phase}
@@ -22,10 +22,6 @@ use Rattle.transfer.proofs.Sound.{live, run-rule, drain-rule}
 use Rattle.transfer.proofs.Moves.{at, done, Fresh, four, idle-kept, out-kept, frame-step, ack-one, ack-more, ack-done, drop-step}
 use Rattle.transfer.proofs.Moves.{inside, idle-is, out-is, fresh}
 use Rattle.transfer.proofs.Exact.{sound}
-
--- some calls deliver all
-abbrev pub Finishes : ℕ → Transfer → Type 0
-Finishes bound s = (cs : List Call) × (run bound cs s .phase ≡ Phase.Done)
 
 by-call : (bound : ℕ) (s t : Transfer) (c : Call) → stepOf bound c s .state ≡ t → Finishes bound t → Finishes bound s
 by-call bound s t c e w = (c ∷ w .0, ap (λ (x : Transfer). run bound (w .0) x .phase) e ∙ w .1)

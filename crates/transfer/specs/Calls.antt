@@ -8,6 +8,7 @@ use Rattle.transfer.specs.Steps.{startStep, frameStep, ackStep, nakStep,
 use Rattle.transfer.specs.declared.Transfer.{Transfer}
 use Rattle.transfer.specs.declared.Stepped.{Stepped}
 use Rattle.transfer.specs.declared.Answer.{Answer}
+use Rattle.transfer.specs.declared.Phase.{Phase}
 
 pub data Call : Type 0 where
   start : ℕ → ℕ → ℕ → ℕ → Call
@@ -41,3 +42,7 @@ pub record Left (bound : ℕ) (s : Transfer) : Type 0 where
 -- s is the state before START, or what some START and calls after it leave
 abbrev pub Reachable : ℕ → Transfer → Type 0
 Reachable bound s = (s ≡ before) ⊎ Left bound s
+
+-- some calls deliver all
+abbrev pub Finishes : ℕ → Transfer → Type 0
+Finishes bound s = (cs : List Call) × (run bound cs s .phase ≡ Phase.Done)
