@@ -6,7 +6,7 @@ use mathlib.Core.Path.{_≡_}
 use lib.Dec.{ltb}
 use lib.ListN.{length, getD}
 use Rattle.refusals.specs.Refusals.{numberOf}
-use Rattle.transfer.specs.Steps.{bound64}
+use Rattle.transfer.specs.Steps.{limit}
 use Rattle.transfer.specs.Calls.{Call, frame, ack, nak, timeout, lost, nexus, cancel, stepOf}
 use Rattle.transfer.specs.declared.Answer.{Answer}
 use Rattle.bench_steps.specs.Rounds.{Said, said, nextOf}
@@ -17,7 +17,7 @@ plainOf k = getD (frame ∷ ack ∷ nak ∷ timeout ∷ lost ∷ nexus ∷ []) k
 
 -- the call with a number: below 7 a plain one, else a next-frame call
 unfoldable pub callOf : ℕ → ℕ → ℕ → List ℕ → ℕ → Said → Said
-callOf destination source tag body k w = cond (ltb k 7) (said (stepOf bound64 (plainOf k) (w .stepped .state)) (w .out)) (nextOf destination source tag body w)
+callOf destination source tag body k w = cond (ltb k 7) (said (stepOf limit (plainOf k) (w .stepped .state)) (w .out)) (nextOf destination source tag body w)
 
 -- after the first k calls
 abbrev pub after : ℕ → ℕ → ℕ → List ℕ → List ℕ → ℕ → Said → Said

@@ -3,7 +3,7 @@ use Prim.Native.Nat.{ℕ, zero, suc}
 use mathlib.Core.List.{List}
 use mathlib.Core.Path.{_≡_}
 use Rattle.transfer.specs.Rules.{before}
-use Rattle.transfer.specs.Steps.{bound64, startStep, frameStep, ackStep}
+use Rattle.transfer.specs.Steps.{limit, startStep, frameStep, ackStep}
 use Rattle.transfer.specs.declared.Transfer.{Transfer}
 use Rattle.transfer.specs.declared.Stepped.{Stepped}
 use Rattle.send.specs.Send.{headOf, nextStep, nextBytes}
@@ -14,7 +14,7 @@ times f zero a = a
 times f (suc k) a = f (times f k a)
 
 abbrev pub startWith : ℕ → ℕ → ℕ → ℕ → Stepped
-startWith b n m r = startStep bound64 b n m r before
+startWith b n m r = startStep limit b n m r before
 
 -- the state that START leaves
 abbrev pub startedWith : ℕ → ℕ → ℕ → ℕ → Transfer
@@ -22,10 +22,10 @@ startedWith b n m r = startWith b n m r .state
 
 -- a step that is refused leaves the state
 abbrev pub frameOf : Transfer → Transfer
-frameOf s = frameStep bound64 s .state
+frameOf s = frameStep limit s .state
 
 abbrev pub ackOf : Transfer → Transfer
-ackOf s = ackStep bound64 s .state
+ackOf s = ackStep limit s .state
 
 -- a frame, and its ACK
 abbrev pub turnOf : Transfer → Transfer
@@ -44,7 +44,7 @@ abbrev pub nextOf : ℕ → ℕ → ℕ → List ℕ → Said → Said
 nextOf destination source tag body w =
     let s = w .stepped .state in
     let h = headOf s destination source tag in
-    said (nextStep bound64 s h body (w .out)) (nextBytes bound64 s h body (w .out))
+    said (nextStep limit s h body (w .out)) (nextBytes limit s h body (w .out))
 
 -- what calls that end at w promise of their last step r and of the output as they leave it
 pub record Did (w : Said) (r : Stepped) (after : List ℕ) : Type 0 where

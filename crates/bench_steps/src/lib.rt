@@ -1,7 +1,7 @@
 // What the bench measures, and the tests call besides: the steps of document 01, 'Read transfer', over and over from one START. C lends
 // no enum, so a state stays within a call.
 ghost use mathlib.Core.Path.{_≡_};
-ghost use Rattle.transfer.specs.Steps.{bound64};
+ghost use Rattle.transfer.specs.Steps.{limit};
 ghost use Rattle.transfer.specs.Calls.{stepOf};
 ghost use Rattle.bench_steps.specs.Rounds.{times, startWith, startedWith, frameOf, ackOf, turnOf, said, nextOf, Did, Left};
 ghost use Rattle.bench_steps.specs.Calls.{plainOf, callOf, afterAll, spoken, Told};
@@ -144,7 +144,7 @@ pub extern "C" fn bench_next(
 }
 
 fn plain(s: Transfer, call: u8) -> Stepped
-    ensures { λ a. ⌜ a ≡ stepOf bound64 (plainOf call) s ⌝ }
+    ensures { λ a. ⌜ a ≡ stepOf limit (plainOf call) s ⌝ }
 {
     match call {
         0 => {

@@ -8,7 +8,7 @@ use mathlib.Core.Path.{_≡_}
 use lib.ListN.{length}
 use native.Mathlib.Omega.{arith}
 use Rattle.transfer.specs.Rules.{endOf, before, frames as framesIn}
-use Rattle.transfer.specs.Steps.{bound64, unfinished}
+use Rattle.transfer.specs.Steps.{limit, unfinished}
 use Rattle.transfer.specs.Demand.{Demand3}
 use Rattle.transfer.specs.History.{Frame, Entry, EntryOf, View, sent, view, firstResent, framesSent, Covered}
 use Rattle.transfer.specs.declared.Transfer.{Transfer}
@@ -33,16 +33,16 @@ pub record Run : Type 0 where
 
 -- the transfer before the last call, its history, what the last call adds to it, and what it answers
 abbrev now : Run → Transfer
-now r = run bound64 (r .calls) before
+now r = run limit (r .calls) before
 
 abbrev past : Run → List Entry
-past r = frames (history bound64 (r .calls) before [])
+past r = frames (history limit (r .calls) before [])
 
 abbrev added : Run → List Entry
-added r = frames (shotsOf bound64 (r .last) (now r))
+added r = frames (shotsOf limit (r .last) (now r))
 
 abbrev next : Run → Stepped
-next r = stepOf bound64 (r .last) (now r)
+next r = stepOf limit (r .last) (now r)
 
 -- 01 READ.3 01 READ.7 01 READ.12 01 READ.15
 -- 01 PROMISE.4: Sending at the first call and only nodding at ACKs falls to demand 3: the balance point must reach the last ACKed frame.
@@ -67,17 +67,17 @@ pub record Balance : Type 0 where
   pub all-done : (r : Run) → now r .phase ≡ Phase.Done → view (past r) .good ≡ view (past r) .attempt
   -- 01 DATA.1
   -- a frame's changing data pointer is one exactly if its attempt is a resend in which none went before it, by the history
-  pub changing : (r : Run) (f : Shot) → shotsOf bound64 (r .last) (now r) ≡ sent f ∷ [] → f .changing ≡ cond (firstResent (view (past r))) 1 0
+  pub changing : (r : Run) (f : Shot) → shotsOf limit (r .last) (now r) ≡ sent f ∷ [] → f .changing ≡ cond (firstResent (view (past r))) 1 0
   -- what the depth computation lost: with the bytes of one image lent to each next-frame call at its offset, at "delivered" the
   -- payloads that the DATA reader finds in the ACKed frames' bytes cover the request, byte for byte of that image
-  pub image : (r : Run) (image : List ℕ) → AllFromImage image bound64 (r .calls) before → FromImage image (r .last) (now r) → next r .answer ≡ Answer.Done → (x : ℕ) → now r .offset ≤ x → x < endOf (now r) → Shown image x (view (shotsOf bound64 (r .last) (now r) ++ history bound64 (r .calls) before []) .acked)
+  pub image : (r : Run) (image : List ℕ) → AllFromImage image limit (r .calls) before → FromImage image (r .last) (now r) → next r .answer ≡ Answer.Done → (x : ℕ) → now r .offset ≤ x → x < endOf (now r) → Shown image x (view (shotsOf limit (r .last) (now r) ++ history limit (r .calls) before []) .acked)
   -- no stuck state: from every unfinished state some calls reach done
-  pub unstuck : (s : Transfer) → plainly.Reachable bound64 s → unfinished (s .phase) ≡ true → plainly.Finishes bound64 s
+  pub unstuck : (s : Transfer) → plainly.Reachable limit s → unfinished (s .phase) ≡ true → plainly.Finishes limit s
   -- no endless sending: at most (R+1) times ⌈N/M⌉ frames go for one START
   pub ends : (r : Run) → framesSent (past r) ≤ (now r .resends + 1) * framesIn (now r .count) (now r .size)
 
-all : (r : Run) → Demand3 bound64 (now r) (past r) (added r) (next r)
-all r = demand-3 bound64 (r .calls) (r .last) (r .typed) (r .tagged)
+all : (r : Run) → Demand3 limit (now r) (past r) (added r) (next r)
+all r = demand-3 limit (r .calls) (r .last) (r .typed) (r .tagged)
 
 pub balance : Balance
 balance = record {
@@ -91,8 +91,8 @@ balance = record {
   over = λ r. all r .over;
   all-acked = λ r. all r .all-acked;
   all-done = λ r. all r .all-done;
-  changing = λ r. changing-is bound64 (r .calls) (r .last) (r .typed) (r .tagged);
-  image = λ r image given this. delivered image bound64 (r .calls) (r .last) (r .typed) (r .tagged) given this;
-  unstuck = λ s. unstuck bound64 (omega arith) s;
-  ends = λ r. sends-end bound64 (r .calls) (r .typed);
+  changing = λ r. changing-is limit (r .calls) (r .last) (r .typed) (r .tagged);
+  image = λ r image given this. delivered image limit (r .calls) (r .last) (r .typed) (r .tagged) given this;
+  unstuck = λ s. unstuck limit (omega arith) s;
+  ends = λ r. sends-end limit (r .calls) (r .typed);
 }

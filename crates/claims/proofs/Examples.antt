@@ -8,7 +8,7 @@ use Rattle.open_frame.specs.Wait.{waitOf}
 use Rattle.open_frame.specs.declared.Head.{Head}
 use Rattle.open_frame.specs.declared.OpenFrame.{OpenFrame}
 use Rattle.transfer.specs.Rules.{before}
-use Rattle.transfer.specs.Steps.{bound64}
+use Rattle.transfer.specs.Steps.{limit}
 use Rattle.transfer.specs.Calls.{start, frame as framed, run}
 use Rattle.transfer.specs.Examples.{listing, times, listed, output}
 use Rattle.transfer.proofs.Examples.{p10 as listing-is, p11 as sixteen}
@@ -48,12 +48,12 @@ pub record Examples : Type 0 where
   pub p9 : (r : Request) (now : ℕ) (t : Stamp) → r .pbc .0 ≡ 255 → again r Reason.PathwayBlocked now t .pbc .0 ≡ 255
   -- 01 READ.5 01 READ.8
   -- 01 EXAMPLE.5: P10 the listing.
-  pub p10 : listing bound64 1 listed before ≡ output
+  pub p10 : listing limit 1 listed before ≡ output
   -- 01 TEXT.6
   -- and of the text: the listing's bytes in give the listing's bytes out
   pub p10-text : outputOf listed-bytes ≡ printed
   -- 01 EXAMPLE.6: P11 B 0, M 4, N 100, sixteen frames, no answer: balance 0, unanswered 16.
-  pub p11 : let s = run bound64 (start 0 100 4 0 ∷ times 16 framed) before in (s .balance ≡ 0) × (s .unanswered ≡ 16)
+  pub p11 : let s = run limit (start 0 100 4 0 ∷ times 16 framed) before in (s .balance ≡ 0) × (s .unanswered ≡ 16)
 
 pub examples : Examples
 examples = record {

@@ -14,7 +14,7 @@ use Rattle.refusals.specs.declared.Refusal.{Refusal}
 use Rattle.refusals.proofs.Causes.{only, if-first, stays, through, decides-append}
 use Rattle.ssp_frame.specs.Data.{frameEnd, dataBytes}
 use Rattle.ssp_frame.specs.declared.data.DataHead.{DataHead}
-use Rattle.transfer.specs.Steps.{bound64, frameLength, framed, refused}
+use Rattle.transfer.specs.Steps.{limit, frameLength, framed, refused}
 use Rattle.transfer.specs.Calls.{Call, stepOf}
 use Rattle.transfer.specs.Grounds.{groundsOf}
 use Rattle.transfer.specs.History.{isRefused}
@@ -39,49 +39,49 @@ sent-apart k e = let z : _≡_ {A = ℕ} 0 1 = cc in omega arith
 
 -- what a next-frame call answers, the state in its answer, and the output after it
 pub record Next (s : Transfer) (h : DataHead) (body out : List ℕ) (r : Stepped) (after : List ℕ) : Type 1 where
-  pub exactly : (k : Refusal) → (r .answer ≡ Answer.Refused k) ↔ First (nextGrounds bound64 s h body out) k
+  pub exactly : (k : Refusal) → (r .answer ≡ Answer.Refused k) ↔ First (nextGrounds limit s h body out) k
   pub keeps : (k : Refusal) → r .answer ≡ Answer.Refused k → (r .state ≡ s) × (after ≡ out)
 
 module _ (s : Transfer) (h : DataHead) (body out : List ℕ) where
-  next-decides : Decides (nextCauses bound64 s h body out) (nextGrounds bound64 s h body out)
+  next-decides : Decides (nextCauses limit s h body out) (nextGrounds limit s h body out)
   unfolding causesOf
   next-decides =
-      decides-append (decides bound64 (omega arith) s Call.frame)
+      decides-append (decides limit (omega arith) s Call.frame)
       (cons (unless (data-fields h)) (cons (unless (next-lengths (frameLength s) (length body) (length out))) nil))
 
-  answer-is : nextStep bound64 s h body out .answer ≡ refuse Answer.Refused (nextCauses bound64 s h body out) Answer.Sent
+  answer-is : nextStep limit s h body out .answer ≡ refuse Answer.Refused (nextCauses limit s h body out) Answer.Sent
   unfolding nextStep
-  answer-is = through (λ (st : Stepped). st .answer) (refused s) (nextCauses bound64 s h body out) (framed (frameLength s) s)
+  answer-is = through (λ (st : Stepped). st .answer) (refused s) (nextCauses limit s h body out) (framed (frameLength s) s)
 
-  state-is : nextStep bound64 s h body out .state ≡ refuse (λ _. s) (nextCauses bound64 s h body out) (framed (frameLength s) s .state)
+  state-is : nextStep limit s h body out .state ≡ refuse (λ _. s) (nextCauses limit s h body out) (framed (frameLength s) s .state)
   unfolding nextStep
-  state-is = through (λ (st : Stepped). st .state) (refused s) (nextCauses bound64 s h body out) (framed (frameLength s) s)
+  state-is = through (λ (st : Stepped). st .state) (refused s) (nextCauses limit s h body out) (framed (frameLength s) s)
 
-  bytes-are : nextBytes bound64 s h body out ≡ refuse (λ _. out) (nextCauses bound64 s h body out) (dataBytes h body ++ drop (frameEnd (length body)) out)
+  bytes-are : nextBytes limit s h body out ≡ refuse (λ _. out) (nextCauses limit s h body out) (dataBytes h body ++ drop (frameEnd (length body)) out)
   unfolding nextBytes
-  bytes-are = λ i. refuse (λ _. out) (nextCauses bound64 s h body out) (dataBytes h body ++ drop (frameEnd (length body)) out)
+  bytes-are = λ i. refuse (λ _. out) (nextCauses limit s h body out) (dataBytes h body ++ drop (frameEnd (length body)) out)
 
-  next-refused : {r : Stepped} {after : List ℕ} → Went bound64 s h body out r after → Next s h body out r after
+  next-refused : {r : Stepped} {after : List ℕ} → Went limit s h body out r after → Next s h body out r after
   next-refused {r} {after} p =
-      let answer : r .answer ≡ refuse Answer.Refused (nextCauses bound64 s h body out) Answer.Sent = ap (λ (st : Stepped). st .answer) (p .step) ∙ answer-is in
+      let answer : r .answer ≡ refuse Answer.Refused (nextCauses limit s h body out) Answer.Sent = ap (λ (st : Stepped). st .answer) (p .step) ∙ answer-is in
       record {
         exactly = λ k. (λ e. only Answer.Refused Answer.Sent one sent-apart next-decides k (sym answer ∙ e), λ f. answer ∙ if-first Answer.Refused Answer.Sent one sent-apart next-decides k f);
         keeps = λ k e. (
-          ap (λ (st : Stepped). st .state) (p .step) ∙ (state-is ∙ stays Answer.Refused Answer.Sent one sent-apart (nextCauses bound64 s h body out) (framed (frameLength s) s .state) s k (sym answer ∙ e)),
-          p .bytes ∙ (bytes-are ∙ stays Answer.Refused Answer.Sent one sent-apart (nextCauses bound64 s h body out) (dataBytes h body ++ drop (frameEnd (length body)) out) out k (sym answer ∙ e)),
+          ap (λ (st : Stepped). st .state) (p .step) ∙ (state-is ∙ stays Answer.Refused Answer.Sent one sent-apart (nextCauses limit s h body out) (framed (frameLength s) s .state) s k (sym answer ∙ e)),
+          p .bytes ∙ (bytes-are ∙ stays Answer.Refused Answer.Sent one sent-apart (nextCauses limit s h body out) (dataBytes h body ++ drop (frameEnd (length body)) out) out k (sym answer ∙ e)),
         );
       }
 
 -- 01 READ.1 01 READ.2 01 REFUSAL.3 01 REFUSAL.6 01 REFUSAL.7 01 REFUSAL.8 01 REFUSAL.10 01 REFUSAL.12 01 REFUSAL.13
 pub record StepRefusals : Type 1 where
   -- START to CANCEL: Steps shows that these are the methods' answers
-  pub exactly : (s : Transfer) (c : Call) (k : Refusal) → (stepOf bound64 c s .answer ≡ Answer.Refused k) ↔ First (groundsOf bound64 c s) k
-  pub keeps : (s : Transfer) (c : Call) → isRefused (stepOf bound64 c s .answer) ≡ true → stepOf bound64 c s .state ≡ s
+  pub exactly : (s : Transfer) (c : Call) (k : Refusal) → (stepOf limit c s .answer ≡ Answer.Refused k) ↔ First (groundsOf limit c s) k
+  pub keeps : (s : Transfer) (c : Call) → isRefused (stepOf limit c s .answer) ≡ true → stepOf limit c s .state ≡ s
   pub next : (c : NextFrame) → Next (c .args .0) (headOf (c .args .0) (c .args .1 .0) (c .args .1 .1 .0) (c .args .1 .1 .1 .0)) (now (c .args .1 .1 .1 .1 .0)) (now (c .args .1 .1 .1 .1 .1 .0)) (c .answer) (now (c .exit .1 .1 .1 .1 .1 .0))
 
 pub step-refusals : StepRefusals
 step-refusals = record {
-  exactly = λ s c k. refused-exactly bound64 (omega arith) s c k;
-  keeps = λ s c. refused-kept bound64 s c;
+  exactly = λ s c k. refused-exactly limit (omega arith) s c k;
+  keeps = λ s c. refused-kept limit s c;
   next = λ c. next-refused (c .args .0) (headOf (c .args .0) (c .args .1 .0) (c .args .1 .1 .0) (c .args .1 .1 .1 .0)) (now (c .args .1 .1 .1 .1 .0)) (now (c .args .1 .1 .1 .1 .1 .0)) (c .met);
 }

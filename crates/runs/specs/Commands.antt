@@ -7,7 +7,7 @@ use Rattle.lines.specs.Parts.{tab, joined, fieldsWithin, fieldAt, same}
 use Rattle.lines.specs.declared.Number.{Number}
 use Rattle.lines.specs.declared.Number.the-variants.{Value, Not}
 use Rattle.refusals.specs.declared.Refusal.{Refusal}
-use Rattle.transfer.specs.Steps.{bound64, refused}
+use Rattle.transfer.specs.Steps.{limit, refused}
 use Rattle.transfer.specs.Calls.{start, frame, ack, nak, timeout, lost, nexus, cancel, stepOf}
 use Rattle.transfer.specs.declared.Transfer.{Transfer}
 use Rattle.transfer.specs.declared.Stepped.{Stepped}
@@ -110,12 +110,12 @@ Writable Bad = ⊥
 -- what it does to a transfer
 -- 01 TEXT.5: other lines and those over 255 bytes, LF not counted, are 2.
 unfoldable pub obeyed : Command → Transfer → Stepped
-obeyed (Start b n m r) s = stepOf bound64 (start b n m r) s
-obeyed Frame s = stepOf bound64 frame s
-obeyed Ack s = stepOf bound64 ack s
-obeyed Nak s = stepOf bound64 nak s
-obeyed Timeout s = stepOf bound64 timeout s
-obeyed Lost s = stepOf bound64 lost s
-obeyed Nexus s = stepOf bound64 nexus s
-obeyed Cancel s = stepOf bound64 cancel s
+obeyed (Start b n m r) s = stepOf limit (start b n m r) s
+obeyed Frame s = stepOf limit frame s
+obeyed Ack s = stepOf limit ack s
+obeyed Nak s = stepOf limit nak s
+obeyed Timeout s = stepOf limit timeout s
+obeyed Lost s = stepOf limit lost s
+obeyed Nexus s = stepOf limit nexus s
+obeyed Cancel s = stepOf limit cancel s
 obeyed Bad s = refused s Refusal.Unlisted

@@ -1,6 +1,6 @@
 // Document 01, 'Read transfer': the next-frame call, which writes the DATA frame at the read offset.
 ghost use mathlib.Core.Path.{_≡_};
-ghost use Rattle.transfer.specs.Steps.{bound64};
+ghost use Rattle.transfer.specs.Steps.{limit};
 ghost use Rattle.transfer.specs.Steps as steps;
 ghost use Rattle.send.specs.Send.{changingOf, headOf, isSent, isDone, Went};
 use refusals::Refusal;
@@ -75,7 +75,7 @@ pub fn next_frame(
     body: &[u8],
     out: &mut [u8],
 ) -> Stepped
-    ensures { λ r. ⌜ Went bound64 s (headOf s destination source tag) (now (body .entry)) (now (out .entry)) r (now (out .exit)) ⌝ }
+    ensures { λ r. ⌜ Went limit s (headOf s destination source tag) (now (body .entry)) (now (out .entry)) r (now (out .exit)) ⌝ }
 {
     let stepped = s.frame();
     let answer = stepped.answer;

@@ -6,20 +6,20 @@ use mathlib.Core.Path.{_≡_, refl}
 use lib.Dec.{eqb}
 use Rattle.laws.proofs.Bools.{by-test}
 use Rattle.transfer.specs.Rules.{before, placed, phaseRule, rules}
-use Rattle.transfer.specs.Steps.{bound64, answered, settled, drained, acked, naked, draining, refused, answerCauses, startStep, frameStep, ackStep, nakStep}
+use Rattle.transfer.specs.Steps.{limit, answered, settled, drained, acked, naked, draining, refused, answerCauses, startStep, frameStep, ackStep, nakStep}
 use Rattle.transfer.specs.Calls.{start, frame, stepOf, run}
 use Rattle.transfer.specs.Examples.{listing, times, listed, output}
 use Rattle.transfer.specs.declared.Transfer.{Transfer}
 use Rattle.transfer.specs.declared.Stepped.{Stepped}
 use Rattle.refusals.proofs.Causes.{by-causes}
 
--- 01 EXAMPLE.P10: P10 the listing.
-pub p10 : listing bound64 1 listed before ≡ output
+-- 01 EXAMPLE.5
+pub p10 : listing limit 1 listed before ≡ output
 unfolding stepOf startStep frameStep ackStep nakStep settled drained acked naked rules placed phaseRule
 p10 = refl
 
--- 01 EXAMPLE.P11: P11 B 0, M 4, N 100, sixteen frames, no answer: balance 0, unanswered 16.
-pub p11 : let s = run bound64 (start 0 100 4 0 ∷ times 16 frame) before in (s .balance ≡ 0) × (s .unanswered ≡ 16)
+-- 01 EXAMPLE.6
+pub p11 : let s = run limit (start 0 100 4 0 ∷ times 16 frame) before in (s .balance ≡ 0) × (s .unanswered ≡ 16)
 unfolding stepOf startStep frameStep rules placed phaseRule
 p11 = (refl, refl)
 

@@ -1,5 +1,5 @@
--- Document 01, 'Read transfer': the setup, and which states some START and the calls after it leave, in closed form. The bound
--- on unanswered frames is an argument everywhere. Assumes nothing.
+-- Document 01, 'Read transfer': the setup, and which states some START and the calls after it leave, in closed form, which is
+-- exact for a bound of 2 or more. The bound on unanswered frames is an argument everywhere. Assumes nothing.
 use Prim.Native.Nat.{ℕ, _+_, _-_, _/_, _%_}
 use mathlib.Core.Bool.{Bool, true, false, not, _&&_, _||_}
 use lib.Dec.{ltb, leb, eqb}

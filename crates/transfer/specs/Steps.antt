@@ -12,8 +12,8 @@ use Rattle.transfer.specs.declared.Answer.{Answer}
 use Rattle.transfer.specs.declared.Phase.{Phase}
 
 -- the bound that the code keeps to; every definition takes it as an argument
-abbrev pub bound64 : ℕ
-bound64 = 64
+abbrev pub limit : ℕ
+limit = 64
 
 -- 01 READ.4: The transfer state goes in and comes back by value at each step.
 abbrev pub say : Answer → Transfer → Stepped
@@ -126,6 +126,7 @@ startCauses bound b n m r s = (Refusal.Rules when (not (inRange b n m r) || not 
 -- 01 REFUSAL.7: a NAK was seen and answers are still due
 -- 01 REFUSAL.8: every byte has been sent in this attempt
 -- 01 REFUSAL.10: 32 requests are present, or 64 frames are unanswered
+-- 01 REFUSAL.13
 abbrev pub frameCauses : ℕ → Transfer → List Cause
 frameCauses bound s =
     (Refusal.Rules when not (rules bound s))
@@ -135,9 +136,11 @@ frameCauses bound s =
     ∷ (Refusal.Full when leb bound (s .unanswered))
     ∷ []
 
+-- 01 REFUSAL.13
 abbrev pub answerCauses : ℕ → Transfer → List Cause
 answerCauses bound s = (Refusal.Rules when not (rules bound s)) ∷ (Refusal.Unfit when (not (unfinished (s .phase)) || eqb (s .unanswered) 0)) ∷ []
 
+-- 01 REFUSAL.13
 abbrev pub endCauses : ℕ → Transfer → List Cause
 endCauses bound s = (Refusal.Rules when not (rules bound s)) ∷ (Refusal.Unfit when not (unfinished (s .phase))) ∷ []
 

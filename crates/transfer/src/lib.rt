@@ -3,7 +3,7 @@ ghost use mathlib.Core.Path.{_≡_};
 ghost use mathlib.Core.Bool.{true};
 ghost use Prim.Native.Nat.{_+_, _-_, _<_, _≤_, min};
 ghost use Rattle.transfer.specs.Rules.{endOf, inRange, before, isNew, zeros, ordered, onGrid, placed, framesOut, attempted, runRule, drainRule, doneRule, failRule, endRule, phaseRule, rules};
-ghost use Rattle.transfer.specs.Steps.{bound64, say, inPhase, frameLength, allSent, frameCauses, answerCauses, startStep, frameStep, ackStep, nakStep, dropStep, endStep};
+ghost use Rattle.transfer.specs.Steps.{limit, say, inPhase, frameLength, allSent, frameCauses, answerCauses, startStep, frameStep, ackStep, nakStep, dropStep, endStep};
 ghost use Rattle.transfer.specs.Steps as steps;
 ghost use Rattle.transfer.specs.declared.Checked.{Checked};
 ghost use Rattle.refusals.specs.Causes.{refuse};
@@ -297,8 +297,8 @@ impl Transfer {
         }
     }
 
-    // Whether the state is that before START, or some START and calls after it leave it, where at most `bound` frames may be
-    // unanswered.
+    // Whether the state is that before START, or some START and calls after it leave it, where at most `bound` frames, 2 or more, may
+    // be unanswered.
     pub fn taken(self, bound: u32) -> bool
         ensures { λ a. ⌜ a ≡ rules bound self ⌝ }
     {
@@ -425,7 +425,7 @@ impl Transfer {
     }
 
     pub fn start(mut self, b: u32, n: u32, m: u32, r: u32) -> Stepped
-        ensures { λ a. ⌜ a ≡ startStep bound64 b n m r self ⌝ }
+        ensures { λ a. ⌜ a ≡ startStep limit b n m r self ⌝ }
     {
         if !in_range(b, n, m, r) | !self.taken(BOUND) {
             return self.refused(Refusal::Rules);
@@ -448,7 +448,7 @@ impl Transfer {
 
     // What a frame is refused for.
     fn frame_checked(self) -> Checked
-        ensures { λ a. ⌜ a ≡ refuse Checked.Refused (frameCauses bound64 self) Checked.Passed ⌝ }
+        ensures { λ a. ⌜ a ≡ refuse Checked.Refused (frameCauses limit self) Checked.Passed ⌝ }
     {
         if !self.taken(BOUND) {
             return Checked::Refused(Refusal::Rules);
@@ -472,7 +472,7 @@ impl Transfer {
     // 01 FORM.6: Transfer methods with mut self for frame, ACK, NAK, timeout and cancel.
     // The next frame goes.
     pub fn frame(mut self) -> Stepped
-        ensures { λ a. ⌜ a ≡ frameStep bound64 self ⌝ }
+        ensures { λ a. ⌜ a ≡ frameStep limit self ⌝ }
     {
         let checked = self.frame_checked();
         match checked {
@@ -493,7 +493,7 @@ impl Transfer {
 
     // What ACK, NAK, TIMEOUT and LOST are refused for.
     fn answer_checked(self) -> Checked
-        ensures { λ a. ⌜ a ≡ refuse Checked.Refused (answerCauses bound64 self) Checked.Passed ⌝ }
+        ensures { λ a. ⌜ a ≡ refuse Checked.Refused (answerCauses limit self) Checked.Passed ⌝ }
     {
         if !self.taken(BOUND) {
             return Checked::Refused(Refusal::Rules);
@@ -506,7 +506,7 @@ impl Transfer {
     }
 
     pub fn ack(mut self) -> Stepped
-        ensures { λ a. ⌜ a ≡ ackStep bound64 self ⌝ }
+        ensures { λ a. ⌜ a ≡ ackStep limit self ⌝ }
     {
         let checked = self.answer_checked();
         match checked {
@@ -521,7 +521,7 @@ impl Transfer {
     }
 
     pub fn nak(mut self) -> Stepped
-        ensures { λ a. ⌜ a ≡ nakStep bound64 self ⌝ }
+        ensures { λ a. ⌜ a ≡ nakStep limit self ⌝ }
     {
         let checked = self.answer_checked();
         match checked {
@@ -536,7 +536,7 @@ impl Transfer {
     }
 
     pub fn timeout(mut self) -> Stepped
-        ensures { λ a. ⌜ a ≡ dropStep bound64 self ⌝ }
+        ensures { λ a. ⌜ a ≡ dropStep limit self ⌝ }
     {
         let checked = self.answer_checked();
         match checked {
@@ -554,13 +554,13 @@ impl Transfer {
     }
 
     pub fn lost(self) -> Stepped
-        ensures { λ a. ⌜ a ≡ dropStep bound64 self ⌝ }
+        ensures { λ a. ⌜ a ≡ dropStep limit self ⌝ }
     {
         self.timeout()
     }
 
     pub fn cancel(mut self) -> Stepped
-        ensures { λ a. ⌜ a ≡ endStep bound64 self ⌝ }
+        ensures { λ a. ⌜ a ≡ endStep limit self ⌝ }
     {
         if !self.taken(BOUND) {
             return self.refused(Refusal::Rules);
@@ -574,7 +574,7 @@ impl Transfer {
     }
 
     pub fn nexus(self) -> Stepped
-        ensures { λ a. ⌜ a ≡ endStep bound64 self ⌝ }
+        ensures { λ a. ⌜ a ≡ endStep limit self ⌝ }
     {
         self.cancel()
     }

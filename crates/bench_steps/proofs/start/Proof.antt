@@ -1,6 +1,6 @@
 -- The step is START on the state before START. Assumes nothing.
 use mathlib.Core.Path.{ap, _∙_}
-use Rattle.transfer.specs.Steps.{bound64, startStep}
+use Rattle.transfer.specs.Steps.{limit, startStep}
 use Rattle.transfer.specs.declared.Transfer.{Transfer}
 use Rattle.bench_steps.proofs.start.Statement.{statement}
 use Rattle.bench_steps.proofs.start.Tie as tie
@@ -14,7 +14,7 @@ start-requires c κs = tt
 returns : tie.Need-returns
 returns c =
     let a = c .before .before .args in
-    c .start .ensures ∙ ap (λ (s : Transfer). startStep bound64 (a .b) (a .n) (a .m) (a .r) s) (c .before .unstarted .ensures)
+    c .start .ensures ∙ ap (λ (s : Transfer). startStep limit (a .b) (a .n) (a .m) (a .r) s) (c .before .unstarted .ensures)
 
 pub start-spec : {M : Type 1} → statement M
 start-spec = tie.close (tie.spec unstarted-requires start-requires returns)

@@ -11,7 +11,7 @@ use borrow.Author.Tests.{not-true, not-false, ne-eqb}
 use Rattle.refusals.specs.Causes.{Wrote}
 use Rattle.ssp_frame.specs.Data.{frameEnd, dataBytes, dataListed, writeCauses}
 use Rattle.ssp_frame.specs.declared.data.DataHead.{DataHead}
-use Rattle.transfer.specs.Steps.{bound64, frameStep, frameLength}
+use Rattle.transfer.specs.Steps.{limit, frameStep, frameLength}
 use Rattle.transfer.specs.declared.Stepped.{Stepped}
 use Rattle.send.specs.Send.{headOf, isSent}
 use Rattle.send.proofs.Laws.{not-sent, unlisted, unfit, no-room, sent}
@@ -29,11 +29,11 @@ returns c =
     let framed = c .before .before in
     let a = framed .before .before .before .args in
     let off = sym (c .before .is-sent .ensures ∙ ap (λ (st : Stepped). isSent (st .answer)) (framed .frame .ensures)) ∙ not-true _ (c .if1 .taken) in
-    let w = not-sent bound64 (a .s) (headOf (a .s) (a .destination) (a .source) (a .tag)) (now (a .body)) (now (a .out)) off in
+    let w = not-sent limit (a .s) (headOf (a .s) (a .destination) (a .source) (a .tag)) (now (a .body)) (now (a .out)) off in
     record { step = framed .frame .ensures ∙ w .step; bytes = w .bytes }
 
 -- a frame call would send
-on : (c : tie.Else1) → isSent (frameStep bound64 (c .before .before .before .before .before .args .s) .answer) ≡ true
+on : (c : tie.Else1) → isSent (frameStep limit (c .before .before .before .before .before .args .s) .answer) ≡ true
 on c = sym (c .before .is-sent .ensures ∙ ap (λ (st : Stepped). isSent (st .answer)) (c .before .before .frame .ensures)) ∙ not-false _ (c .if1 .left)
 
 -- the test of the fields
@@ -54,7 +54,7 @@ returns-2 c =
     let then2 = c .before in
     let else1 = then2 .before .before .before in
     let a = else1 .before .before .before .before .before .args in
-    let w = unlisted bound64 (a .s) (headOf (a .s) (a .destination) (a .source) (a .tag)) (now (a .body)) (now (a .out)) (on else1) (sym (tested (then2 .before)) ∙ not-true _ (then2 .if2 .taken)) in
+    let w = unlisted limit (a .s) (headOf (a .s) (a .destination) (a .source) (a .tag)) (now (a .body)) (now (a .out)) (on else1) (sym (tested (then2 .before)) ∙ not-true _ (then2 .if2 .taken)) in
     record { step = c .refused .ensures ∙ w .step; bytes = w .bytes }
 
 -- the fields are listed
@@ -78,7 +78,7 @@ returns-3 c =
     let a = else1 .before .before .before .before .before .args in
     let body = now (a .body) in
     let off = ap (λ (t : Bool). t && leb (frameEnd (length body)) (length (now (a .out)))) (ne-eqb (length body) (frameLength (a .s)) (λ e. then3 .if3 .taken (e ∙ sym (then3 .before .frame-length .ensures)))) in
-    let w = unfit bound64 (a .s) (headOf (a .s) (a .destination) (a .source) (a .tag)) body (now (a .out)) (on else1) (listed else2) off in
+    let w = unfit limit (a .s) (headOf (a .s) (a .destination) (a .source) (a .tag)) body (now (a .out)) (on else1) (listed else2) off in
     record { step = c .refused2 .ensures ∙ w .step; bytes = w .bytes }
 
 -- what the writer wrote, with the fields as they are defined
@@ -114,7 +114,7 @@ returns-4 c =
     let else1 = else2 .before .before .before in
     let a = else1 .before .before .before .before .before .args in
     let n = else3 .if3 .left ∙ else3 .before .frame-length .ensures in
-    let w = no-room bound64 (a .s) (headOf (a .s) (a .destination) (a .source) (a .tag)) (now (a .body)) (now (a .out)) (on else1) (listed else2) n (wrote written) (sym (done .is-done .ensures) ∙ not-true _ (then4 .if4 .taken)) in
+    let w = no-room limit (a .s) (headOf (a .s) (a .destination) (a .source) (a .tag)) (now (a .body)) (now (a .out)) (on else1) (listed else2) n (wrote written) (sym (done .is-done .ensures) ∙ not-true _ (then4 .if4 .taken)) in
     record { step = c .refused3 .ensures ∙ w .step; bytes = w .bytes }
 
 same-length-2 : tie.Need-same-length-2
@@ -130,7 +130,7 @@ returns-5 c =
     let framed = else1 .before .before in
     let a = framed .before .before .before .args in
     let n = else3 .if3 .left ∙ else3 .before .frame-length .ensures in
-    let w = sent bound64 (a .s) (headOf (a .s) (a .destination) (a .source) (a .tag)) (now (a .body)) (now (a .out)) (on else1) (listed else2) n (wrote written) (sym (done .is-done .ensures) ∙ not-false _ (c .if4 .left)) in
+    let w = sent limit (a .s) (headOf (a .s) (a .destination) (a .source) (a .tag)) (now (a .body)) (now (a .out)) (on else1) (listed else2) n (wrote written) (sym (done .is-done .ensures) ∙ not-false _ (c .if4 .left)) in
     record { step = framed .frame .ensures ∙ w .step; bytes = w .bytes }
 
 pub next-frame-spec : {M : Type 1} → statement M

@@ -1,6 +1,6 @@
 -- `ack` is refused by its check, or goes on to `acked`. Assumes nothing.
 use borrow.Author.Needs.{needs}
-use Rattle.transfer.specs.Steps.{bound64, refused, answered, acked, answerCauses, ackStep}
+use Rattle.transfer.specs.Steps.{limit, refused, answered, acked, answerCauses, ackStep}
 use Rattle.transfer.proofs.Causes.{none-given, goes-on, stops}
 use Rattle.transfer.proofs.Calls.{Answerable, answerable, again}
 use Rattle.transfer.proofs.Transfer.ack.Statement.{statement}
@@ -19,15 +19,15 @@ returns : tie.Need-returns
 unfolding ackStep
 returns c =
     let s = c .before .before .before .before .before .args .self in
-    stops (refused s) (acked (answered s)) (answerCauses bound64 s) (c .before .before .before .before .answer-checked .ensures) (c .before .before .checked .given .1) (c .refused .ensures)
+    stops (refused s) (acked (answered s)) (answerCauses limit s) (c .before .before .before .before .answer-checked .ensures) (c .before .before .checked .given .1) (c .refused .ensures)
 
 enum-told : tie.Need-enum-told
 enum-told c = search needs
 
-passed : (c : tie.After-enum-told) → Answerable bound64 (c .before .before .before .args .self)
+passed : (c : tie.After-enum-told) → Answerable limit (c .before .before .before .args .self)
 passed c =
     let s = c .before .before .before .args .self in
-    answerable bound64 s (none-given (answerCauses bound64 s) (c .before .before .answer-checked .ensures) (c .enum-told .given .1))
+    answerable limit s (none-given (answerCauses limit s) (c .before .before .answer-checked .ensures) (c .enum-told .given .1))
 
 sub-self : tie.Need-sub-self
 sub-self c = passed (c .before) .some
@@ -35,13 +35,13 @@ sub-self c = passed (c .before) .some
 acked-requires : tie.Need-acked-requires
 acked-requires c κs =
     let h = passed (c .before) in
-    again bound64 (c .before .before .before .before .args .self) (h .kept) (h .underway)
+    again limit (c .before .before .before .before .args .self) (h .kept) (h .underway)
 
 returns-2 : tie.Need-returns-2
 unfolding ackStep
 returns-2 c =
     let s = c .before .before .before .before .before .args .self in
-    goes-on (refused s) (acked (answered s)) (answerCauses bound64 s) (c .before .before .before .before .answer-checked .ensures) (c .before .before .enum-told .given .1) (c .acked .ensures)
+    goes-on (refused s) (acked (answered s)) (answerCauses limit s) (c .before .before .before .before .answer-checked .ensures) (c .before .before .enum-told .given .1) (c .acked .ensures)
 
 pub ack-spec : {M : Type 1} → statement M
 ack-spec =

@@ -5,7 +5,7 @@ use native.Mathlib.Omega.{arith}
 use lib.Dec.{lit≤}
 use borrow.Author.Needs.{needs}
 use borrow.Author.Tests.{not-false}
-use Rattle.transfer.specs.Steps.{bound64, refused, frameLength, framed, say, with, frameCauses, frameStep}
+use Rattle.transfer.specs.Steps.{limit, refused, frameLength, framed, say, with, frameCauses, frameStep}
 use Rattle.transfer.specs.declared.Answer.{Answer}
 use Rattle.refusals.proofs.Causes.{NoneGiven}
 use Rattle.transfer.proofs.Causes.{none-given, goes-on, stops}
@@ -26,13 +26,13 @@ returns : tie.Need-returns
 unfolding frameStep
 returns c =
     let s = c .before .before .before .before .before .args .self in
-    stops (refused s) (framed (frameLength s) s) (frameCauses bound64 s) (c .before .before .before .before .frame-checked .ensures) (c .before .before .checked .given .1) (c .refused .ensures)
+    stops (refused s) (framed (frameLength s) s) (frameCauses limit s) (c .before .before .before .before .frame-checked .ensures) (c .before .before .checked .given .1) (c .refused .ensures)
 
 enum-told : tie.Need-enum-told
 enum-told c = search needs
 
-passed : (c : tie.After-enum-told) → NoneGiven (frameCauses bound64 (c .before .before .before .args .self))
-passed c = none-given (frameCauses bound64 (c .before .before .before .args .self)) (c .before .before .frame-checked .ensures) (c .enum-told .given .1)
+passed : (c : tie.After-enum-told) → NoneGiven (frameCauses limit (c .before .before .before .args .self))
+passed c = none-given (frameCauses limit (c .before .before .before .args .self)) (c .before .before .frame-checked .ensures) (c .enum-told .given .1)
 
 frame-length-requires : tie.Need-frame-length-requires
 frame-length-requires c κs = search needs
@@ -40,7 +40,7 @@ frame-length-requires c κs = search needs
 add-self : tie.Need-add-self
 add-self c =
     let off = passed (c .before .before) in
-    let fits = frame-fits bound64 (c .before .before .before .before .before .args .self) (not-false _ (off .0)) (not-false _ (off .1 .0)) in
+    let fits = frame-fits limit (c .before .before .before .before .before .args .self) (not-false _ (off .0)) (not-false _ (off .1 .0)) in
     omega (arith, c .before .frame-length .ensures)
 
 one-more-requires : tie.Need-one-more-requires
@@ -50,7 +50,7 @@ returns-2 : tie.Need-returns-2
 unfolding frameStep
 returns-2 c =
     let s = c .before .before .before .before .before .before .args .self in
-    goes-on (refused s) (framed (frameLength s) s) (frameCauses bound64 s) (c .before .before .before .before .before .frame-checked .ensures) (c .before .before .before .enum-told .given .1)
+    goes-on (refused s) (framed (frameLength s) s) (frameCauses limit s) (c .before .before .before .before .before .frame-checked .ensures) (c .before .before .before .enum-told .given .1)
     (λ i. say Answer.Sent (with s (s .read + c .before .before .frame-length .ensures i) (s .balance) (c .one-more .ensures i) true (s .used) (s .phase)))
 
 pub frame-spec : {M : Type 1} → statement M

@@ -4,7 +4,7 @@ use mathlib.Core.Bool.{true, false}
 use borrow.Author.Needs.{needs}
 use borrow.Author.Tests.{le-leb, lt-leb}
 use Rattle.transfer.specs.Rules.{rules}
-use Rattle.transfer.specs.Steps.{bound64, unfinished, draining, allSent}
+use Rattle.transfer.specs.Steps.{limit, unfinished, draining, allSent}
 use Rattle.transfer.specs.declared.Transfer.{Transfer}
 use Rattle.transfer.proofs.Calls.{off, on}
 use Rattle.transfer.proofs.Transfer.frame_checked.Statement.{statement}
@@ -14,7 +14,7 @@ use Rattle.transfer.proofs.Transfer.frame_checked.Tie as tie
 abbrev first : tie.Else1 → Transfer
 first c = c .before .before .args .self
 
-kept : (c : tie.Else1) → rules bound64 (first c) ≡ true
+kept : (c : tie.Else1) → rules limit (first c) ≡ true
 kept c = on (c .before .taken .ensures) (c .if1 .left)
 
 abbrev second : tie.Else2 → tie.Else1

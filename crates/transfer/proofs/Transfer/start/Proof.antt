@@ -2,14 +2,14 @@
 use mathlib.Core.Path.{_≡_, sym, _∙_}
 use mathlib.Core.Bool.{not, _||_}
 use borrow.Author.Needs.{needs}
-use Rattle.transfer.specs.Steps.{startStep, bound64}
+use Rattle.transfer.specs.Steps.{startStep, limit}
 use Rattle.transfer.specs.Rules.{inRange, rules}
 use Rattle.transfer.proofs.Transfer.start.Statement.{statement}
 use Rattle.transfer.proofs.Transfer.start.Tie as tie
 
 -- what the first test tests
 tested : (c : tie.After-taken)
-    → let a = c .before .before .args in not (inRange (a .b) (a .n) (a .m) (a .r)) || not (rules bound64 (a .self)) ≡ not (c .before .in-range .result) || not (c .taken .result)
+    → let a = c .before .before .args in not (inRange (a .b) (a .n) (a .m) (a .r)) || not (rules limit (a .self)) ≡ not (c .before .in-range .result) || not (c .taken .result)
 tested c = sym (λ i. not (c .before .in-range .ensures i) || not (c .taken .ensures i))
 
 in-range-requires : tie.Need-in-range-requires

@@ -1,7 +1,7 @@
 -- `timeout` is refused by its check, or goes on to `dropped`. Assumes nothing.
 use borrow.Author.Tests.{le-leb, lt-leb}
 use borrow.Author.Needs.{needs}
-use Rattle.transfer.specs.Steps.{bound64, refused, dropped, answerCauses, dropStep}
+use Rattle.transfer.specs.Steps.{limit, refused, dropped, answerCauses, dropStep}
 use Rattle.transfer.proofs.Causes.{goes-on, stops}
 use Rattle.transfer.proofs.Transfer.timeout.Statement.{statement}
 use Rattle.transfer.proofs.Transfer.timeout.Tie as tie
@@ -19,7 +19,7 @@ returns : tie.Need-returns
 unfolding dropStep dropped
 returns c =
     let s = c .before .before .before .before .before .args .self in
-    stops (refused s) (dropped s) (answerCauses bound64 s) (c .before .before .before .before .answer-checked .ensures) (c .before .before .checked .given .1) (c .refused .ensures)
+    stops (refused s) (dropped s) (answerCauses limit s) (c .before .before .before .before .answer-checked .ensures) (c .before .before .checked .given .1) (c .refused .ensures)
 
 enum-told : tie.Need-enum-told
 enum-told c = search needs
@@ -31,7 +31,7 @@ returns-2 : tie.Need-returns-2
 unfolding dropStep dropped
 returns-2 c =
     let s = c .before .before .before .before .before .before .args .self in
-    goes-on (refused s) (dropped s) (answerCauses bound64 s) (c .before .before .before .before .before .answer-checked .ensures) (c .before .before .before .enum-told .given .1) (rw (le-leb _ _ (c .before .if1 .taken)) (c .told .ensures))
+    goes-on (refused s) (dropped s) (answerCauses limit s) (c .before .before .before .before .before .answer-checked .ensures) (c .before .before .before .enum-told .given .1) (rw (le-leb _ _ (c .before .if1 .taken)) (c .told .ensures))
 
 resent-requires : tie.Need-resent-requires
 resent-requires c κs = search needs
@@ -40,7 +40,7 @@ returns-3 : tie.Need-returns-3
 unfolding dropStep dropped
 returns-3 c =
     let s = c .before .before .before .before .before .before .args .self in
-    goes-on (refused s) (dropped s) (answerCauses bound64 s) (c .before .before .before .before .before .answer-checked .ensures) (c .before .before .before .enum-told .given .1) (rw (lt-leb _ _ (c .before .if1 .left)) (c .resent .ensures))
+    goes-on (refused s) (dropped s) (answerCauses limit s) (c .before .before .before .before .before .answer-checked .ensures) (c .before .before .before .enum-told .given .1) (rw (lt-leb _ _ (c .before .if1 .left)) (c .resent .ensures))
 
 pub timeout-spec : {M : Type 1} → statement M
 timeout-spec =
