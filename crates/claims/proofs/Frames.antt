@@ -18,7 +18,7 @@ use Rattle.open_frame.specs.Open.{openBytes, notCarried, cleared, headListed, W
 use Rattle.open_frame.specs.declared.OpenFrame.{OpenFrame}
 use Rattle.open_frame.specs.declared.OpenRead.the-variants.{Frame as Open}
 use Rattle.open_frame.proofs.Trip.{read-written as open-back, written-read as open-forth, found as open-found}
-use Rattle.ssp_frame.specs.Data.{frameEnd, dataBytes, dataSized, dataListed, Typed, readData, writeCauses as dataWrites}
+use Rattle.ssp_frame.specs.Data.{frameEnd, dataBytes, dataLeft, dataSized, dataListed, Typed, readData, writeCauses as dataWrites}
 use Rattle.ssp_frame.specs.declared.data.DataHead.{DataHead}
 use Rattle.ssp_frame.specs.declared.data.DataFrame.{DataFrame}
 use Rattle.ssp_frame.specs.declared.data.DataRead.the-variants.{Frame as Data}
@@ -41,11 +41,11 @@ module _ (f : OpenFrame) (before : List ℕ) {x : Written} {after : List ℕ} (w
       let d = wrote-is (openBytes f) before w (eq-eqb (length before) 28 long) listed in
       (d .0, d .1 ∙ open-forth s f small e)
 
-module _ (h : DataHead) (body before : List ℕ) {x : Written} {after : List ℕ} (w : Wrote (dataWrites h body before) (dataBytes h body ++ drop (frameEnd (length body)) before) before x after) where
+module _ (h : DataHead) (body before : List ℕ) {x : Written} {after : List ℕ} (w : Wrote (dataWrites h body before) (dataLeft h body before) before x after) where
   data-wrote : x ≡ Done → Typed h → let s = take (frameEnd (length body)) after in (readData s ≡ Data (record { head = h; length = length body })) × (take (length body) (drop 24 s) ≡ body)
   data-wrote e typed =
       let n = length body in
-      let d = done-wrote (dataBytes h body ++ drop (frameEnd n) before) before (dataSized n (length before)) (dataListed h) w e in
+      let d = done-wrote (dataLeft h body before) before (dataSized n (length before)) (dataListed h) w e in
       let fits = fitting n (length before) (d .0) in
       let front : take (frameEnd n) after ≡ dataBytes h body = ap (take (frameEnd n)) (d .1 .1) ∙ take-at (dataBytes h body) (drop (frameEnd n) before) (frameEnd n) (frame-long h body) in
       (ap readData front ∙ data-back h body (listed-is h (d .1 .0)) typed (fits .least) (fits .most), ap (λ (l : List ℕ). take n (drop 24 l)) front ∙ body-held h body)
@@ -57,7 +57,7 @@ module _ (h : DataHead) (body before : List ℕ) {x : Written} {after : List ℕ
       let end : frameEnd (length body) ≡ length before = ap frameEnd n ∙ ok .end ∙ sym el in
       let sized = is-fitting (length body) (length before) (record { most = omega (arith, ok .most); least = omega (arith, ok .least); room = omega arith }) in
       let listed = is-listed h (subst (λ (g : DataHead). Listed g) (sym eh) (ok .listed)) in
-      let d = wrote-is (dataBytes h body ++ drop (frameEnd (length body)) before) before w sized listed in
+      let d = wrote-is (dataLeft h body before) before w sized listed in
       let none : drop (frameEnd (length body)) before ≡ [] = drop-of-length-le before {i = frameEnd (length body)} (omega arith) in
       (d .0, d .1 ∙ ap (λ (l : List ℕ). dataBytes h body ++ l) none ∙ append-nil (dataBytes h body) ∙ (λ i. dataBytes (eh i) (eb i)) ∙ data-forth s f small e)
 

@@ -9,7 +9,7 @@ use native.Mathlib.Omega.{arith}
 use lib.ListN.{length}
 use denote.Ref.{now}
 use Rattle.refusals.specs.Refusals.{numberOf}
-use Rattle.refusals.specs.Causes.{refuse, frameCauses, Wrote}
+use Rattle.refusals.specs.Causes.{refuse, bufferCauses, Wrote}
 use Rattle.refusals.specs.declared.Refusal.{Refusal}
 use Rattle.refusals.specs.declared.Written.{Written}
 use Rattle.refusals.specs.declared.Written.the-variants.{Done, Refused as NotWritten}
@@ -20,25 +20,25 @@ use Rattle.open_frame.specs.Open.{frameOf, openBytes, readOpen, readCauses as o
 use Rattle.open_frame.specs.declared.OpenFrame.{OpenFrame}
 use Rattle.open_frame.specs.declared.OpenRead.{OpenRead}
 use Rattle.open_frame.specs.declared.OpenRead.the-variants.{Frame as Open, Refused as NotOpen}
-use Rattle.ssp_frame.specs.Data.{dataOf, readData, readCauses as dataReads, writeCauses as dataWrites}
+use Rattle.ssp_frame.specs.Data.{dataLeft, dataOf, readData, readCauses as dataReads, writeCauses as dataWrites}
 use Rattle.ssp_frame.specs.declared.data.DataHead.{DataHead}
 use Rattle.ssp_frame.specs.declared.data.DataFrame.{DataFrame}
 use Rattle.ssp_frame.specs.declared.data.DataRead.{DataRead}
 use Rattle.ssp_frame.specs.declared.data.DataRead.the-variants.{Frame as Data, Refused as NotData}
-use Rattle.sonerwal.specs.Face.{Called, open9, data5, data6, dataLeft}
+use Rattle.sonerwal.specs.Face.{Called, open9, data5, data6}
 use Rattle.claims.specs.Causes.{Bytes, OpenBytes, OpenFields, DataLengths, DataFields, DataLength, DataBytes, Answers}
 use Rattle.claims.proofs.Calls.{Outcome, ReadOpen, WriteOpen, ReadData, WriteData, SasOpenRead, SasOpenWrite, SasDataRead, SasDataWrite}
 use Rattle.claims.proofs.Grounds.{open-length, open-bytes, open-fields, data-lengths, data-fields, data-length, data-bytes}
 
 -- what two tests that decide two causes make of a call, where refusals are told apart from each other and from the other answer
 module _ {A : Type 0} (refused : Refusal → A) (done : A) (one : (j k : Refusal) → refused j ≡ refused k → j ≡ k) (apart : (k : Refusal) → done ≡ refused k → ⊥) where
-  answers : {L : Type 0} {s t : Bool} {P Q : Type 0} → (s ≡ true) ↔ P → (t ≡ true) ↔ Q → (new before : L) {x : A} {after : L} → x ≡ refuse refused (frameCauses s t) done → after ≡ refuse (λ _. before) (frameCauses s t) new → Answers refused done x P Q before after
+  answers : {L : Type 0} {s t : Bool} {P Q : Type 0} → (s ≡ true) ↔ P → (t ≡ true) ↔ Q → (new before : L) {x : A} {after : L} → x ≡ refuse refused (bufferCauses s t) done → after ≡ refuse (λ _. before) (bufferCauses s t) new → Answers refused done x P Q before after
   answers {s = s} {t = t} d e new before px pa =
       let both = frame-decides d e in
       record {
         exactly = λ k. (λ h. only refused done one apart both k (sym px ∙ h), λ h. px ∙ if-first refused done one apart both k h);
         otherwise = (λ h. none-held refused done one apart both (sym px ∙ h), λ h. px ∙ if-none refused done one apart both h);
-        keeps = λ k h. pa ∙ stays refused done one apart (frameCauses s t) new before k (sym px ∙ h);
+        keeps = λ k h. pa ∙ stays refused done one apart (bufferCauses s t) new before k (sym px ∙ h);
       }
 
 one-open : (j k : Refusal) → NotOpen j ≡ NotOpen k → j ≡ k

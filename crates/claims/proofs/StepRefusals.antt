@@ -6,13 +6,13 @@ use mathlib.Core.List.{List, [], _∷_, _++_}
 use mathlib.Core.Logic.{_↔_}
 use mathlib.Core.Path.{_≡_, sym, ap, _∙_}
 use native.Mathlib.Omega.{arith}
-use lib.ListN.{length, drop}
+use lib.ListN.{length}
 use denote.Ref.{now}
 use Rattle.laws.proofs.Tests.{unless}
 use Rattle.refusals.specs.Causes.{Ground, _if_, refuse, First, Decides, nil, cons}
 use Rattle.refusals.specs.declared.Refusal.{Refusal}
 use Rattle.refusals.proofs.Causes.{only, if-first, stays, through, decides-append}
-use Rattle.ssp_frame.specs.Data.{frameEnd, dataBytes}
+use Rattle.ssp_frame.specs.Data.{dataLeft}
 use Rattle.ssp_frame.specs.declared.data.DataHead.{DataHead}
 use Rattle.transfer.specs.Steps.{limit, frameLength, framed, refused}
 use Rattle.transfer.specs.Calls.{Call, stepOf}
@@ -57,9 +57,9 @@ module _ (s : Transfer) (h : DataHead) (body out : List ℕ) where
   unfolding nextStep
   state-is = through (λ (st : Stepped). st .state) (refused s) (nextCauses limit s h body out) (framed (frameLength s) s)
 
-  bytes-are : nextBytes limit s h body out ≡ refuse (λ _. out) (nextCauses limit s h body out) (dataBytes h body ++ drop (frameEnd (length body)) out)
+  bytes-are : nextBytes limit s h body out ≡ refuse (λ _. out) (nextCauses limit s h body out) (dataLeft h body out)
   unfolding nextBytes
-  bytes-are = λ i. refuse (λ _. out) (nextCauses limit s h body out) (dataBytes h body ++ drop (frameEnd (length body)) out)
+  bytes-are = λ i. refuse (λ _. out) (nextCauses limit s h body out) (dataLeft h body out)
 
   next-refused : {r : Stepped} {after : List ℕ} → Went limit s h body out r after → Next s h body out r after
   next-refused {r} {after} p =
@@ -68,7 +68,7 @@ module _ (s : Transfer) (h : DataHead) (body out : List ℕ) where
         exactly = λ k. (λ e. only Answer.Refused Answer.Sent one sent-apart next-decides k (sym answer ∙ e), λ f. answer ∙ if-first Answer.Refused Answer.Sent one sent-apart next-decides k f);
         keeps = λ k e. (
           ap (λ (st : Stepped). st .state) (p .step) ∙ (state-is ∙ stays Answer.Refused Answer.Sent one sent-apart (nextCauses limit s h body out) (framed (frameLength s) s .state) s k (sym answer ∙ e)),
-          p .bytes ∙ (bytes-are ∙ stays Answer.Refused Answer.Sent one sent-apart (nextCauses limit s h body out) (dataBytes h body ++ drop (frameEnd (length body)) out) out k (sym answer ∙ e)),
+          p .bytes ∙ (bytes-are ∙ stays Answer.Refused Answer.Sent one sent-apart (nextCauses limit s h body out) (dataLeft h body out) out k (sym answer ∙ e)),
         );
       }
 

@@ -5,7 +5,7 @@ use mathlib.Core.List.{List}
 use mathlib.Core.Path.{_≡_}
 use lib.ListN.{length, getD}
 use mathlib.Core.Logic.{_↔_}
-use Rattle.refusals.specs.Causes.{frameGrounds, First, None}
+use Rattle.refusals.specs.Causes.{bufferGrounds, First, None}
 use Rattle.refusals.specs.declared.Refusal.{Refusal}
 use Rattle.open_frame.specs.declared.Head.{Head}
 use Rattle.ssp_frame.specs.declared.data.DataHead.{DataHead}
@@ -66,8 +66,8 @@ pub record NextLengths (count n m : ℕ) : Type 0 where
 -- what is claimed of a call with the answer x, and with what it was lent before and after
 pub record Answers {A L : Type 0} (refused : Refusal → A) (done x : A) (right listed : Type 0) (before after : L) : Type 1 where
   -- refusal k exactly if k is the first cause that holds
-  pub exactly : (k : Refusal) → (x ≡ refused k) ↔ First (frameGrounds right listed) k
+  pub exactly : (k : Refusal) → (x ≡ refused k) ↔ First (bufferGrounds right listed) k
   -- and the other answer exactly if none does
-  pub otherwise : (x ≡ done) ↔ None (frameGrounds right listed)
+  pub otherwise : (x ≡ done) ↔ None (bufferGrounds right listed)
   -- a refusal leaves everything as it was
   pub keeps : (k : Refusal) → x ≡ refused k → after ≡ before

@@ -7,7 +7,7 @@ use lib.ListN.{length, getD, set}
 use lib.Dec.{eqb, ltb, leb}
 use Rattle.wire.specs.Be.{beAt}
 use Rattle.wire.specs.Fields.{Field, _bytes_, layBytes}
-use Rattle.refusals.specs.Causes.{Cause, refuse, frameCauses}
+use Rattle.refusals.specs.Causes.{Cause, refuse, bufferCauses}
 use Rattle.open_frame.specs.declared.Head.{Head}
 use Rattle.open_frame.specs.declared.OpenFrame.{OpenFrame}
 use Rattle.open_frame.specs.declared.OpenRead.{OpenRead}
@@ -80,10 +80,10 @@ typed s = eqb (getD s 0 0 % 16) 1
 
 -- 01 OPEN.6: Any other length is refusal 1, any other type, protocol or rate 2.
 abbrev pub readCauses : List ℕ → List Cause
-readCauses s = frameCauses (eqb (length s) 28) (typed s && headListed (headOf s))
+readCauses s = bufferCauses (eqb (length s) 28) (typed s && headListed (headOf s))
 
 abbrev pub writeCauses : OpenFrame → List ℕ → List Cause
-writeCauses f out = frameCauses (eqb (length out) 28) (headListed (f .head))
+writeCauses f out = bufferCauses (eqb (length out) 28) (headListed (f .head))
 
 unfoldable pub readOpen : List ℕ → OpenRead
 readOpen s = refuse Refused (readCauses s) (Frame (frameOf s))

@@ -26,8 +26,8 @@ refuse refused [] a = a
 refuse refused (c ∷ cs) a = cond (c .given) (refused (c .refusal)) (refuse refused cs a)
 
 -- what a frame's reader or writer checks: its lengths, then its fields
-abbrev pub frameCauses : Bool → Bool → List Cause
-frameCauses sized listed = (Length when not sized) ∷ (Unlisted when not listed) ∷ []
+abbrev pub bufferCauses : Bool → Bool → List Cause
+bufferCauses sized listed = (Length when not sized) ∷ (Unlisted when not listed) ∷ []
 
 -- what a writer with these causes promises of its answer r and of the bytes that it leaves: `new`, or on a refusal all that was there
 pub record Wrote (cs : List Cause) (new before : List ℕ) (r : Written) (after : List ℕ) : Type 0 where
@@ -59,5 +59,5 @@ pub data Decides : List Cause → List Ground → Type 1 where
   cons : {p : Type 0} {t : Bool} {k : Refusal} {cs : List Cause} {gs : List Ground} → (t ≡ true) ↔ p → Decides cs gs → Decides ((k when t) ∷ cs) ((k if p) ∷ gs)
 
 -- a frame's grounds: its lengths are not right, or its fields are not listed
-abbrev pub frameGrounds : Type 0 → Type 0 → List Ground
-frameGrounds right listed = (Length if (right → ⊥)) ∷ (Unlisted if (listed → ⊥)) ∷ []
+abbrev pub bufferGrounds : Type 0 → Type 0 → List Ground
+bufferGrounds right listed = (Length if (right → ⊥)) ∷ (Unlisted if (listed → ⊥)) ∷ []

@@ -13,7 +13,7 @@ use Rattle.laws.proofs.Bools.{and-left}
 use Rattle.refusals.specs.Causes.{Cause, _when_, refuse}
 use Rattle.refusals.specs.declared.Refusal.{Refusal}
 use Rattle.refusals.proofs.Causes.{NoneGiven, none-append, Verdict, stopped, passes, verdict, unrefused}
-use Rattle.ssp_frame.specs.Data.{frameEnd, dataBytes, dataListed, readData}
+use Rattle.ssp_frame.specs.Data.{frameEnd, dataBytes, dataLeft, dataListed, readData}
 use Rattle.ssp_frame.specs.declared.data.DataHead.{DataHead}
 use Rattle.ssp_frame.specs.declared.data.DataRead.{DataRead}
 use Rattle.ssp_frame.specs.declared.data.DataRead.the-variants.{Frame as Data}
@@ -105,7 +105,7 @@ module _ (bound : ℕ) (s : Transfer) (destination source tag : ℕ) (body out :
           let l : Long s = long bound s (ap (λ (st : Stepped). isSent (st .answer)) sends) in
           let inside = frame-fits bound s (not-false _ (split .0 .0)) (not-false _ (split .0 .1 .0)) in
           let frame = dataBytes head body in
-          let whole = frame ++ drop (frameEnd (length body)) out in
+          let whole = dataLeft head body out in
           let front : take (frameEnd (length body)) whole ≡ frame = take-at frame (drop (frameEnd (length body)) out) (frameEnd (length body)) (frame-long head body) in
           let read = read-written head body listed (record { tag = typed; offset = omega arith }) (omega (arith, l .least)) (omega (arith, l .most)) in
           taken (record {

@@ -2,11 +2,11 @@
 -- and they pass. Assumes nothing.
 use Prim.Native.Nat.{ℕ, _≤_, _<_}
 use mathlib.Core.Bool.{Bool, true, false, not, cond, _&&_}
-use mathlib.Core.List.{List, [], _∷_, _++_}
+use mathlib.Core.List.{List, [], _∷_}
 use mathlib.Core.Path.{_≡_, refl, sym, ap, _∙_}
 use native.Mathlib.Omega.{arith}
 use lib.Dec.{eqb, leb}
-use lib.ListN.{length, drop}
+use lib.ListN.{length}
 use borrow.Author.Tests.{eqb-false, eqb-true, eq-eqb, ne-eqb, le-leb, lt-ltb, not-false}
 use Rattle.laws.proofs.Bools.{never, and-true, and-false}
 use Rattle.refusals.specs.Causes.{Cause, _when_, refuse, Wrote}
@@ -15,7 +15,7 @@ use Rattle.refusals.specs.declared.Written.{Written}
 use Rattle.refusals.specs.declared.Written.the-variants.{Done, Refused}
 use Rattle.refusals.proofs.Causes.{refuse-append, Verdict, stopped, passes, verdict}
 use Rattle.refusals.proofs.Frames.{by-length, wrote-is}
-use Rattle.ssp_frame.specs.Data.{frameEnd, dataBytes, dataSized, dataListed, writeCauses}
+use Rattle.ssp_frame.specs.Data.{frameEnd, dataLeft, dataSized, dataListed, writeCauses}
 use Rattle.ssp_frame.specs.declared.data.DataHead.{DataHead}
 use Rattle.transfer.specs.Rules.{endOf, rules}
 use Rattle.transfer.specs.Steps.{frameLength, framed, refused, unfinished, allSent, frameCauses, frameStep}
@@ -47,9 +47,6 @@ long bound s =
     record { least = omega arith; most = omega arith })
 
 module _ (bound : ℕ) (s : Transfer) (h : DataHead) (body out : List ℕ) where
-  abbrev whole : List ℕ
-  whole = dataBytes h body ++ drop (frameEnd (length body)) out
-
   -- refused as a frame call is
   pub not-sent : isSent (frameStep bound s .answer) ≡ false → Went bound s h body out (frameStep bound s) out
   unfolding frameStep nextStep nextBytes
@@ -58,7 +55,7 @@ module _ (bound : ℕ) (s : Transfer) (h : DataHead) (body out : List ℕ) where
       by : Verdict (frameCauses bound s) → isSent (frameStep bound s .answer) ≡ false → Went bound s h body out (frameStep bound s) out
       by (stopped k v) e = record {
         step = v Stepped (refused s) (framed (frameLength s) s) ∙ sym (refuse-append (refused s) (frameCauses bound s) (own (dataListed h) (fitting s body out)) (framed (frameLength s) s) ∙ v Stepped (refused s) _);
-        bytes = sym (refuse-append (λ _. out) (frameCauses bound s) (own (dataListed h) (fitting s body out)) whole ∙ v (List ℕ) (λ _. out) _);
+        bytes = sym (refuse-append (λ _. out) (frameCauses bound s) (own (dataListed h) (fitting s body out)) (dataLeft h body out) ∙ v (List ℕ) (λ _. out) _);
       }
       by (passes off v) e = absurd (never (sym e ∙ ap (λ (st : Stepped). isSent (st .answer)) (v Stepped (refused s) (framed (frameLength s) s))))
 
@@ -67,7 +64,7 @@ module _ (bound : ℕ) (s : Transfer) (h : DataHead) (body out : List ℕ) where
     record Left : Type 0 where
       frame : frameStep bound s ≡ framed (frameLength s) s
       step : nextStep bound s h body out ≡ refuse (refused s) (own (dataListed h) (fitting s body out)) (framed (frameLength s) s)
-      bytes : nextBytes bound s h body out ≡ refuse (λ _. out) (own (dataListed h) (fitting s body out)) whole
+      bytes : nextBytes bound s h body out ≡ refuse (λ _. out) (own (dataListed h) (fitting s body out)) (dataLeft h body out)
 
     left : Left
     unfolding frameStep nextStep nextBytes
@@ -78,39 +75,39 @@ module _ (bound : ℕ) (s : Transfer) (h : DataHead) (body out : List ℕ) where
         by (passes off v) e = record {
           frame = v Stepped (refused s) (framed (frameLength s) s);
           step = refuse-append (refused s) (frameCauses bound s) (own (dataListed h) (fitting s body out)) (framed (frameLength s) s) ∙ v Stepped (refused s) _;
-          bytes = refuse-append (λ _. out) (frameCauses bound s) (own (dataListed h) (fitting s body out)) whole ∙ v (List ℕ) (λ _. out) _;
+          bytes = refuse-append (λ _. out) (frameCauses bound s) (own (dataListed h) (fitting s body out)) (dataLeft h body out) ∙ v (List ℕ) (λ _. out) _;
         }
 
     pub unlisted : dataListed h ≡ false → Went bound s h body out (refused s Refusal.Unlisted) out
     unlisted l = record {
       step = sym (left .step ∙ (λ i. refuse (refused s) (own (l i) (fitting s body out)) (framed (frameLength s) s)));
-      bytes = sym (left .bytes ∙ (λ i. refuse (λ _. out) (own (l i) (fitting s body out)) whole));
+      bytes = sym (left .bytes ∙ (λ i. refuse (λ _. out) (own (l i) (fitting s body out)) (dataLeft h body out)));
     }
 
     pub unfit : dataListed h ≡ true → fitting s body out ≡ false → Went bound s h body out (refused s Refusal.Length) out
     unfit l f = record {
       step = sym (left .step ∙ (λ i. refuse (refused s) (own (l i) (f i)) (framed (frameLength s) s)));
-      bytes = sym (left .bytes ∙ (λ i. refuse (λ _. out) (own (l i) (f i)) whole));
+      bytes = sym (left .bytes ∙ (λ i. refuse (λ _. out) (own (l i) (f i)) (dataLeft h body out)));
     }
 
-    went : dataListed h ≡ true → fitting s body out ≡ true → Went bound s h body out (frameStep bound s) whole
+    went : dataListed h ≡ true → fitting s body out ≡ true → Went bound s h body out (frameStep bound s) (dataLeft h body out)
     went l f = record {
       step = left .frame ∙ sym (left .step ∙ (λ i. refuse (refused s) (own (l i) (f i)) (framed (frameLength s) s)));
-      bytes = sym (left .bytes ∙ (λ i. refuse (λ _. out) (own (l i) (f i)) whole));
+      bytes = sym (left .bytes ∙ (λ i. refuse (λ _. out) (own (l i) (f i)) (dataLeft h body out)));
     }
 
     -- data of the frame's length fits where the writer has room for it
-    module _ (listed : dataListed h ≡ true) (n : length body ≡ frameLength s) {w : Written} {after : List ℕ} (p : Wrote (writeCauses h body out) whole out w after) where
+    module _ (listed : dataListed h ≡ true) (n : length body ≡ frameLength s) {w : Written} {after : List ℕ} (p : Wrote (writeCauses h body out) (dataLeft h body out) out w after) where
       same : dataSized (length body) (length out) ≡ fitting s body out
       same =
           let l = long bound s is in
           λ i. (le-leb (length body) 1024 (omega (arith, l)) ∙ sym (eq-eqb (length body) (frameLength s) n)) i && (ap (λ (t : Bool). t && leb (frameEnd (length body)) (length out)) (lt-ltb 0 (length body) (omega (arith, l)))) i
 
-      by-room : (t : Bool) → dataSized (length body) (length out) ≡ t → (isDone w ≡ t) × (after ≡ cond t whole out)
+      by-room : (t : Bool) → dataSized (length body) (length out) ≡ t → (isDone w ≡ t) × (after ≡ cond t (dataLeft h body out) out)
       by-room true e =
-          let d = wrote-is whole out p e listed in
+          let d = wrote-is (dataLeft h body out) out p e listed in
           (ap isDone (d .0), d .1)
-      by-room false e = (ap isDone (p .answer ∙ sym (by-length Refused Done (dataListed h) e)), p .bytes ∙ sym (by-length (λ _. out) whole (dataListed h) e))
+      by-room false e = (ap isDone (p .answer ∙ sym (by-length Refused Done (dataListed h) e)), p .bytes ∙ sym (by-length (λ _. out) (dataLeft h body out) (dataListed h) e))
 
       pub no-room : isDone w ≡ false → Went bound s h body out (refused s Refusal.Length) after
       no-room e = at (dataSized (length body) (length out)) refl

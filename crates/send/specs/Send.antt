@@ -4,10 +4,10 @@ use mathlib.Core.Bool.{Bool, true, false, not, cond, _&&_}
 use mathlib.Core.List.{List, [], _∷_, _++_}
 use mathlib.Core.Path.{_≡_}
 use lib.Dec.{eqb, ltb, leb}
-use lib.ListN.{length, drop}
+use lib.ListN.{length}
 use Rattle.refusals.specs.Causes.{Cause, _when_, refuse}
 use Rattle.refusals.specs.declared.Refusal.{Refusal}
-use Rattle.ssp_frame.specs.Data.{frameEnd, dataBytes, dataListed}
+use Rattle.ssp_frame.specs.Data.{frameEnd, dataLeft, dataListed}
 use Rattle.ssp_frame.specs.declared.data.DataHead.{DataHead}
 use Rattle.transfer.specs.Steps.{frameLength, framed, refused, frameCauses}
 use Rattle.transfer.specs.declared.Transfer.{Transfer}
@@ -37,7 +37,7 @@ nextStep bound s h body out = refuse (refused s) (nextCauses bound s h body out)
 
 -- the output with the frame at its front, or as it was
 unfoldable pub nextBytes : ℕ → Transfer → DataHead → List ℕ → List ℕ → List ℕ
-nextBytes bound s h body out = refuse (λ _. out) (nextCauses bound s h body out) (dataBytes h body ++ drop (frameEnd (length body)) out)
+nextBytes bound s h body out = refuse (λ _. out) (nextCauses bound s h body out) (dataLeft h body out)
 
 -- what the call promises of its answer and state r, and of the output as it leaves it
 pub record Went (bound : ℕ) (s : Transfer) (h : DataHead) (body before : List ℕ) (r : Stepped) (after : List ℕ) : Type 0 where

@@ -1,12 +1,10 @@
 -- What a call from C answers and leaves. Assumes nothing.
 use mathlib.Core.Path.{_≡_}
-use mathlib.Core.List.{List, _++_}
+use mathlib.Core.List.{List}
 use Prim.Native.Nat.{ℕ}
-use lib.ListN.{length, drop}
 use Rattle.refusals.specs.Refusals.{numberOf}
 use Rattle.refusals.specs.Causes.{Cause, refuse}
 use Rattle.open_frame.specs.declared.OpenFrame.{OpenFrame}
-use Rattle.ssp_frame.specs.Data.{dataBytes, frameEnd}
 use Rattle.ssp_frame.specs.declared.data.DataHead.{DataHead}
 use Rattle.ssp_frame.specs.declared.data.DataFrame.{DataFrame}
 
@@ -30,7 +28,3 @@ data5 destination source changing tag offset = record { destination = destinatio
 
 abbrev pub data6 : ℕ → ℕ → ℕ → ℕ → ℕ → ℕ → DataFrame
 data6 destination source changing tag offset length = record { head = data5 destination source changing tag offset; length = length }
-
--- the output with the frame at its front
-abbrev pub dataLeft : DataHead → List ℕ → List ℕ → List ℕ
-dataLeft h body out = dataBytes h body ++ drop (frameEnd (length body)) out

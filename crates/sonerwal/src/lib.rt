@@ -1,8 +1,8 @@
 // 01 DATA.5: C firmware of the board calls the frame readers and writers.
 // What C calls, as include/sonerwal.h declares it: byte slices and numbers, and 0 or a refusal's number as the answer.
 ghost use Rattle.open_frame.specs.Open.{frameOf, openBytes, readCauses as openReads, writeCauses as openWrites};
-ghost use Rattle.ssp_frame.specs.Data.{dataOf, readCauses as dataReads, writeCauses as dataWrites};
-ghost use Rattle.sonerwal.specs.Face.{Called, open9, data5, data6, dataLeft};
+ghost use Rattle.ssp_frame.specs.Data.{dataOf, dataLeft, readCauses as dataReads, writeCauses as dataWrites};
+ghost use Rattle.sonerwal.specs.Face.{Called, open9, data5, data6};
 use open_frame::Awt;
 use open_frame::Head;
 use open_frame::OpenFrame;

@@ -2,11 +2,11 @@
 use Prim.Native.Nat.{ℕ, _+_, _-_, _%_, _^_, _≤_, _<_}
 use mathlib.Core.Bool.{Bool, _&&_}
 use mathlib.Core.List.{List, _++_}
-use lib.ListN.{length, getD, replicate}
+use lib.ListN.{length, getD, drop, replicate}
 use lib.Dec.{eqb, ltb, leb}
 use Rattle.wire.specs.Be.{beAt}
 use Rattle.wire.specs.Fields.{layBytes}
-use Rattle.refusals.specs.Causes.{Cause, refuse, frameCauses}
+use Rattle.refusals.specs.Causes.{Cause, refuse, bufferCauses}
 use Rattle.ssp_frame.specs.Header.{headerFields, headerOf, blank}
 use Rattle.ssp_frame.specs.declared.header.Header.{Header}
 use Rattle.ssp_frame.specs.declared.data.DataHead.{DataHead}
@@ -39,6 +39,11 @@ dataHeader h fill = record {
 abbrev pub dataBytes : DataHead → List ℕ → List ℕ
 dataBytes h body = layBytes (headerFields (dataHeader h (fillOf (length body)))) ++ (body ++ replicate (fillOf (length body)) 0)
 
+-- 01 DATA.3
+-- the output with the frame at its front
+abbrev pub dataLeft : DataHead → List ℕ → List ℕ → List ℕ
+dataLeft h body out = dataBytes h body ++ drop (frameEnd (length body)) out
+
 -- 01 DATA.3: Data of the wrong length, or an output shorter than the frame: refusal 1; bytes past the frame stay.
 -- n bytes of data, for an output of m bytes
 abbrev pub dataSized : ℕ → ℕ → Bool
@@ -61,7 +66,7 @@ pub record Typed (h : DataHead) : Type 0 where
   pub offset : h .offset < 256 ^ 4
 
 abbrev pub writeCauses : DataHead → List ℕ → List ℕ → List Cause
-writeCauses h body out = frameCauses (dataSized (length body) (length out)) (dataListed h)
+writeCauses h body out = bufferCauses (dataSized (length body) (length out)) (dataListed h)
 
 -- 01 DATA.4: The reader takes 28 to 1,048 bytes, a multiple of four, else 1; any header byte off this layout or fill not zero is 2.
 abbrev pub frameSized : ℕ → Bool
@@ -74,7 +79,7 @@ abbrev pub filled : List ℕ → Bool
 filled s = eqb (beAt s (length s - getD s 11 0) (getD s 11 0)) 0
 
 abbrev pub readCauses : List ℕ → List Cause
-readCauses s = frameCauses (frameSized (length s)) ((blank s && kindListed (headerOf s)) && filled s)
+readCauses s = bufferCauses (frameSized (length s)) ((blank s && kindListed (headerOf s)) && filled s)
 
 abbrev pub dataOf : List ℕ → DataFrame
 dataOf s = record {

@@ -5,7 +5,7 @@ ghost use Prim.Native.Nat.{_+_, _%_, _^_, _<_};
 ghost use lib.Dec.{eqb};
 ghost use lib.ListN.{length, drop, replicate};
 ghost use Rattle.refusals.specs.Causes.{Wrote};
-ghost use Rattle.ssp_frame.specs.Data.{fillOf, dataHeader, dataListed, dataSized, PayloadFits, frameSized, kindListed, readData, writeCauses, dataBytes, frameEnd};
+ghost use Rattle.ssp_frame.specs.Data.{fillOf, dataHeader, dataListed, dataSized, PayloadFits, frameSized, kindListed, readData, writeCauses, dataLeft};
 use crate::header;
 use crate::header::Header;
 use refusals::Refusal;
@@ -98,7 +98,7 @@ fn put_payload(body: &[u8], fill: usize, out: &mut [u8])
 // 01 FORM.1: The part of the output slice from 24 on is lent to the payload writer.
 // The frame, at the front of out; the bytes past it stay, and on a refusal all of them.
 pub fn write_data(h: DataHead, body: &[u8], out: &mut [u8]) -> Written
-    ensures { λ r. ⌜ Wrote (writeCauses h (now (body .entry)) (now (out .entry))) (dataBytes h (now (body .entry)) ++ drop (frameEnd (length (now (body .entry)))) (now (out .entry))) (now (out .entry)) r (now (out .exit)) ⌝ }
+    ensures { λ r. ⌜ Wrote (writeCauses h (now (body .entry)) (now (out .entry))) (dataLeft h (now (body .entry)) (now (out .entry))) (now (out .entry)) r (now (out .exit)) ⌝ }
 {
     let n = body.len();
     if !data_sized(n, out.len()) {

@@ -2,14 +2,13 @@
 -- Assumes nothing.
 use mathlib.Core.Path.{_≡_, sym, ap, subst, _∙_}
 use mathlib.Core.Bool.{Bool, true, _&&_}
-use mathlib.Core.List.{_++_}
 use lib.Dec.{leb}
-use lib.ListN.{length, drop}
+use lib.ListN.{length}
 use denote.Ref.{now}
 use borrow.Author.Needs.{needs}
 use borrow.Author.Tests.{not-true, not-false, ne-eqb}
 use Rattle.refusals.specs.Causes.{Wrote}
-use Rattle.ssp_frame.specs.Data.{frameEnd, dataBytes, dataListed, writeCauses}
+use Rattle.ssp_frame.specs.Data.{frameEnd, dataLeft, dataListed, writeCauses}
 use Rattle.ssp_frame.specs.declared.data.DataHead.{DataHead}
 use Rattle.transfer.specs.Steps.{limit, frameStep, frameLength}
 use Rattle.transfer.specs.declared.Stepped.{Stepped}
@@ -84,11 +83,11 @@ returns-3 c =
 -- what the writer wrote, with the fields as they are defined
 wrote : (c : tie.After-write-data) → let a = c .before .before .before .before .before .before .before .before .before .before .before .before .args in
     let h = headOf (a .s) (a .destination) (a .source) (a .tag) in
-    Wrote (writeCauses h (now (a .body)) (now (a .out))) (dataBytes h (now (a .body)) ++ drop (frameEnd (length (now (a .body)))) (now (a .out))) (now (a .out)) (c .write-data .result) (c .write-data .last .1 .1 .0)
+    Wrote (writeCauses h (now (a .body)) (now (a .out))) (dataLeft h (now (a .body)) (now (a .out))) (now (a .out)) (c .write-data .result) (c .write-data .last .1 .1 .0)
 wrote c =
     let at-head = c .before .before .before .before .before .before in
     let a = at-head .before .before .before .before .before .before .args in
-    subst (λ (h : DataHead). Wrote (writeCauses h (now (a .body)) (now (a .out))) (dataBytes h (now (a .body)) ++ drop (frameEnd (length (now (a .body)))) (now (a .out))) (now (a .out)) (c .write-data .result) (c .write-data .last .1 .1 .0))
+    subst (λ (h : DataHead). Wrote (writeCauses h (now (a .body)) (now (a .out))) (dataLeft h (now (a .body)) (now (a .out))) (now (a .out)) (c .write-data .result) (c .write-data .last .1 .1 .0))
     (at-head .head .ensures)
     (c .write-data .ensures)
 

@@ -13,7 +13,7 @@ use Rattle.laws.proofs.Lists.{lent-tail}
 use Rattle.wire.specs.Fields.{layBytes}
 use Rattle.refusals.proofs.Frames.{wrote-length, wrote-field, wrote-done}
 use Rattle.ssp_frame.specs.Header.{headerFields}
-use Rattle.ssp_frame.specs.Data.{fillOf, frameEnd, dataHeader, dataBytes, dataSized, dataListed}
+use Rattle.ssp_frame.specs.Data.{fillOf, dataHeader, dataLeft, dataSized, dataListed}
 use Rattle.ssp_frame.specs.declared.data.DataHead.{DataHead}
 use Rattle.ssp_frame.specs.declared.header.Header.{Header}
 use Rattle.ssp_frame.proofs.Fields.{Fitting, fitting}
@@ -21,17 +21,13 @@ use Rattle.ssp_frame.proofs.Payload.{framed}
 use Rattle.ssp_frame.proofs.data.write_data.Statement.{statement}
 use Rattle.ssp_frame.proofs.data.write_data.Tie as tie
 
--- the output with the frame at its front
-abbrev whole : DataHead → List ℕ → List ℕ → List ℕ
-whole h body out = dataBytes h body ++ drop (frameEnd (length body)) out
-
 data-sized-requires : tie.Need-data-sized-requires
 data-sized-requires c κs = search needs
 
 returns : tie.Need-returns
 returns c =
     let a = c .before .before .before .before .args in
-    wrote-length (whole (a .h) (now (a .body)) (now (a .out))) (now (a .out)) (dataListed (a .h)) (sym (c .before .data-sized .ensures) ∙ not-true _ (c .if1 .taken))
+    wrote-length (dataLeft (a .h) (now (a .body)) (now (a .out))) (now (a .out)) (dataListed (a .h)) (sym (c .before .data-sized .ensures) ∙ not-true _ (c .if1 .taken))
 
 -- the lengths fit
 sized : (c : tie.Else1) → let a = c .before .before .before .before .args in dataSized (length (now (a .body))) (length (now (a .out))) ≡ true
@@ -47,7 +43,7 @@ returns-2 : tie.Need-returns-2
 returns-2 c =
     let else1 = c .before .before in
     let a = else1 .before .before .before .before .args in
-    wrote-field (whole (a .h) (now (a .body)) (now (a .out))) (now (a .out)) (sized else1) (sym (c .before .listed .ensures) ∙ not-true _ (c .if2 .taken))
+    wrote-field (dataLeft (a .h) (now (a .body)) (now (a .out))) (now (a .out)) (sized else1) (sym (c .before .listed .ensures) ∙ not-true _ (c .if2 .taken))
 
 fill-of-requires : tie.Need-fill-of-requires
 fill-of-requires c κs = search needs
@@ -98,10 +94,10 @@ returns-3 c =
     let body = now (a .body) in
     let out = now (a .out) in
     let fill = at-fill .fill-of .result in
-    let w = wrote-done (whole (a .h) body out) out (sized else1) (sym (else2 .before .listed .ensures) ∙ not-false _ (else2 .if2 .left)) in
+    let w = wrote-done (dataLeft (a .h) body out) out (sized else1) (sym (else2 .before .listed .ensures) ∙ not-false _ (else2 .if2 .left)) in
     let header : put .put-header .last .1 .0 ≡ layBytes (headerFields (dataHeader (a .h) fill)) ++ drop 24 out = put .put-header .ensures ∙ ap (λ (h : Header). layBytes (headerFields h) ++ drop 24 out) (at-header .header-for .ensures) in
     let frame = framed (layBytes (headerFields (dataHeader (a .h) fill))) body out (put .put-header .last .1 .0) (payload .put-payload .last .1 .1 .0) fill refl header (payload .put-payload .ensures) in
-    let same : (layBytes (headerFields (dataHeader (a .h) fill)) ++ (body ++ replicate fill 0)) ++ drop (24 + length body + fill) out ≡ whole (a .h) body out = ap (λ (f : ℕ). (layBytes (headerFields (dataHeader (a .h) f)) ++ (body ++ replicate f 0)) ++ drop (24 + length body + f) out) (at-fill .fill-of .ensures) in
+    let same : (layBytes (headerFields (dataHeader (a .h) fill)) ++ (body ++ replicate fill 0)) ++ drop (24 + length body + fill) out ≡ dataLeft (a .h) body out = ap (λ (f : ℕ). (layBytes (headerFields (dataHeader (a .h) f)) ++ (body ++ replicate f 0)) ++ drop (24 + length body + f) out) (at-fill .fill-of .ensures) in
     record { answer = w .answer; bytes = frame ∙ same ∙ w .bytes }
 
 pub write-data-spec : {M : Type 1} → statement M
