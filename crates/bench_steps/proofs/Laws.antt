@@ -3,7 +3,6 @@ use Prim.Native.Nat.{ℕ, _≤_, _<_}
 use mathlib.Core.Bool.{Bool, cond}
 use mathlib.Core.List.{List}
 use mathlib.Core.Path.{_≡_, ap}
-use lib.Dec.{ltb}
 use borrow.Author.Tests.{lt-ltb, le-ltb}
 use Rattle.transfer.specs.Steps.{limit}
 use Rattle.transfer.specs.Calls.{stepOf}

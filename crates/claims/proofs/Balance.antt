@@ -10,7 +10,7 @@ use native.Mathlib.Omega.{arith}
 use Rattle.transfer.specs.Rules.{endOf, before, frames as framesIn}
 use Rattle.transfer.specs.Steps.{limit, unfinished}
 use Rattle.transfer.specs.Demand.{Demand3}
-use Rattle.transfer.specs.History.{Frame, Entry, EntryOf, View, sent, view, firstResent, framesSent, Covered}
+use Rattle.transfer.specs.History.{Frame, Entry, sent, view, firstResent, framesSent, Covered}
 use Rattle.transfer.specs.declared.Transfer.{Transfer}
 use Rattle.transfer.specs.declared.Stepped.{Stepped}
 use Rattle.transfer.specs.declared.Answer.{Answer}

@@ -1,12 +1,12 @@
 -- The test of a lent transfer state accepts exactly the state before START and what some START and calls after it leave.
 -- Assumes nothing.
-use Prim.Native.Nat.{ℕ, _≤_}
+use Prim.Native.Nat.{_≤_}
 use mathlib.Core.Bool.{true}
 use mathlib.Core.Logic.{_↔_}
 use mathlib.Core.Path.{_≡_, sym, _∙_}
 use Rattle.transfer.specs.Calls.{Reachable}
 use Rattle.transfer.proofs.Exact.{exact}
-use Rattle.claims.proofs.Calls.{Outcome, Taken}
+use Rattle.claims.proofs.Calls.{Taken}
 
 -- 01 READ.16
 pub record Exact : Type 0 where

@@ -25,7 +25,7 @@ use Rattle.ssp_frame.specs.declared.data.DataRead.the-variants.{Frame as Data}
 use Rattle.ssp_frame.proofs.Fields.{Listed, fitting, is-fitting, listed-is, is-listed}
 use Rattle.ssp_frame.proofs.Trip.{read-written as data-back, written-read as data-forth, fits, frame-long, body-held}
 use Rattle.claims.specs.Causes.{Bytes}
-use Rattle.claims.proofs.Calls.{Outcome, ReadOpen, WriteOpen, ReadData, WriteData}
+use Rattle.claims.proofs.Calls.{ReadOpen, WriteOpen, ReadData, WriteData}
 
 -- the round trips over the definitions, for any answer and bytes that a writer's promise admits
 module _ (f : OpenFrame) (before : List ℕ) {x : Written} {after : List ℕ} (w : Wrote (openWrites f before) (openBytes f) before x after) where

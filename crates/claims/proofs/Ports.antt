@@ -1,7 +1,7 @@
 -- What is shown of the port: its choice is the right one, its test of a lent state says document 01's rules, a call is refused exactly by
 -- the first ground that holds and then leaves every record, each call keeps the rules, so that no state that calls leave is refused, and a
 -- running loss timer runs on. What each of the ten functions promises, by the source, is what these say of its call. Assumes nothing.
-use Prim.Native.Nat.{ℕ, _≤_, _<_}
+use Prim.Native.Nat.{ℕ, _<_}
 use mathlib.Core.Bool.{Bool, true, false}
 use mathlib.Core.List.{List, _∷_}
 use mathlib.Core.Logic.{_↔_}

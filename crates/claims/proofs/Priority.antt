@@ -1,16 +1,16 @@
 -- Priority is a strict order on (AWT, source): the two numbers are compared one after the other, and between lists of one length
 -- the first place at which they differ decides for both sides. Assumes nothing.
 use mathlib.Core.Bool.{true, false}
-use mathlib.Core.List.{List, [], _∷_}
+use mathlib.Core.List.{List}
 use mathlib.Core.Logic.{_⊎_, inl, inr}
-use mathlib.Core.Path.{_≡_, refl, sym, ap, _∙_}
+use mathlib.Core.Path.{_≡_, sym, ap, _∙_}
 use Prim.Native.Nat.{ℕ}
 use lib.ListN.{getD}
 use Rattle.laws.proofs.Order.{Compared, above, below, equal}
 use Rattle.open_frame.specs.Priority.{priorityOf, higherThan}
 use Rattle.open_frame.specs.declared.OpenFrame.{OpenFrame}
 use Rattle.open_frame.proofs.Priority.{never-both, trans, one-is, neither}
-use Rattle.claims.proofs.Calls.{Outcome, Higher}
+use Rattle.claims.proofs.Calls.{Higher}
 
 -- AWT and source agree
 pub record Agree (f g : OpenFrame) : Type 0 where

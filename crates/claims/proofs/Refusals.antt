@@ -27,7 +27,7 @@ use Rattle.ssp_frame.specs.declared.data.DataRead.{DataRead}
 use Rattle.ssp_frame.specs.declared.data.DataRead.the-variants.{Frame as Data, Refused as NotData}
 use Rattle.sonerwal.specs.Face.{Called, open9, data5, data6}
 use Rattle.claims.specs.Causes.{Bytes, OpenBytes, OpenFields, DataLengths, DataFields, DataLength, DataBytes, Answers}
-use Rattle.claims.proofs.Calls.{Outcome, ReadOpen, WriteOpen, ReadData, WriteData, SasOpenRead, SasOpenWrite, SasDataRead, SasDataWrite}
+use Rattle.claims.proofs.Calls.{ReadOpen, WriteOpen, ReadData, WriteData, SasOpenRead, SasOpenWrite, SasDataRead, SasDataWrite}
 use Rattle.claims.proofs.Grounds.{open-length, open-bytes, open-fields, data-lengths, data-fields, data-length, data-bytes}
 
 -- what two tests that decide two causes make of a call, where refusals are told apart from each other and from the other answer

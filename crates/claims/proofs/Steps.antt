@@ -6,7 +6,7 @@ use Rattle.transfer.specs.Steps.{limit}
 use Rattle.transfer.specs.Calls.{start, frame, ack, nak, timeout, lost, nexus, cancel, stepOf}
 use Rattle.send.specs.Send.{headOf, nextBytes}
 use Rattle.send.specs.Calls as sending
-use Rattle.claims.proofs.Calls.{Outcome, Start, Frame, Ack, Nak, Timeout, Lost, Nexus, Cancel, NextFrame}
+use Rattle.claims.proofs.Calls.{Start, Frame, Ack, Nak, Timeout, Lost, Nexus, Cancel, NextFrame}
 
 -- 01 READ.4 01 READ.5 01 READ.6 01 READ.8 01 READ.9 01 READ.10 01 READ.11 01 READ.12 01 READ.13 01 READ.14
 pub record Steps : Type 0 where

@@ -1,13 +1,13 @@
 -- Demand 2, text: what `readrun`'s calls write, whatever the blocks that come in and the buffers that go out, is document 01's output,
 -- since each call takes up what the last one carried over; a line says a command exactly if it is that command written; and a number
 -- is read as it is written. Assumes nothing.
-use Prim.Native.Nat.{ℕ, zero, suc, _≤_}
+use Prim.Native.Nat.{ℕ, _≤_}
 use mathlib.Core.Bool.{Bool, true, false, cond}
-use mathlib.Core.List.{List, [], _∷_, _++_, append-nil, append-assoc}
+use mathlib.Core.List.{List, [], _∷_, _++_}
 use mathlib.Core.Path.{_≡_, refl, sym, ap, _∙_}
 use borrow.Author.Tests.{le-ltb}
 use denote.Ref.{now}
-use lib.Dec.{eqb, ltb}
+use lib.Dec.{eqb}
 use lib.ListN.{length, take, drop}
 use lib.Seq.{take-append-seam}
 use Rattle.laws.proofs.Lists.{front-again}
@@ -17,7 +17,7 @@ use Rattle.lines.specs.declared.Number.the-variants.{Value}
 use Rattle.lines.proofs.Numbers.{read-written, written-read}
 use Rattle.runs.specs.Commands.{readLine, written, Writable}
 use Rattle.runs.specs.Rows.{longestRow}
-use Rattle.runs.specs.Feed.{Carry, carryOf, runOf, fresh, saidAt, after, said, takes, takenOf, fedOf, closing, Feeds}
+use Rattle.runs.specs.Feed.{Carry, carryOf, runOf, fresh, after, said, takes, takenOf, closing, Feeds}
 use Rattle.runs.specs.Output.{outputOf}
 use Rattle.runs.specs.declared.Command.{Command}
 use Rattle.runs.specs.declared.Command.the-variants.{Bad}
@@ -26,7 +26,7 @@ use Rattle.runs.specs.declared.Fed.{Fed}
 use Rattle.runs.proofs.Inverse.{said-is, is-said}
 use Rattle.runs.proofs.Carry.{after-append, said-append}
 use Rattle.runs.proofs.Output.{whole, carried, blocks, blocks-said}
-use Rattle.claims.proofs.Calls.{Outcome, ReadNumber, Fresh, Feed, Close}
+use Rattle.claims.proofs.Calls.{ReadNumber, Fresh, Feed, Close}
 
 -- some calls of `feed`, each with the run that the last one left, have taken this input, written these words and left this run
 pub data Ran : List ℕ → List ℕ → Run → Type 0 where

@@ -9,7 +9,6 @@ use prog.Wp.{Heap}
 use ghost.Atoms.{Atoms}
 use contract.Lifetimes.{Lfts}
 use contract.Monad.{Fun, fact}
-use denote.Signature.{Signature}
 use denote.Triple.Clauses.{Ended, AtExit}
 use denote.Triple.Entry.{Args, Res}
 use denote.Triple.Spec.{Spec, SpecAt, exits}

@@ -3,7 +3,7 @@
 use mathlib.Core.Path.{_≡_, refl, _∙_, ap, sym, subst}
 use mathlib.Core.Bool.{true, _&&_}
 use mathlib.Core.List.{List, [], _∷_, _++_}
-use Prim.Native.Nat.{ℕ, _/_, _%_, _^_, _<_}
+use Prim.Native.Nat.{ℕ, _/_, _%_, _<_}
 use native.Mathlib.Omega.{arith}
 use lib.Dec.{eqb}
 use lib.ListN.{length, getD, take, drop}
@@ -15,7 +15,6 @@ use Rattle.refusals.proofs.Frames.{by-none, passed}
 use Rattle.refusals.specs.declared.Refusal.{Refusal}
 use Rattle.open_frame.specs.Open.{byte0, byte1, openBytes, headOf, frameOf, notCarried, cleared, headListed, Widths, typed, readOpen}
 use Rattle.open_frame.specs.declared.OpenFrame.{OpenFrame}
-use Rattle.open_frame.specs.declared.OpenRead.{OpenRead}
 use Rattle.open_frame.specs.declared.OpenRead.the-variants.{Frame, Refused}
 use Rattle.open_frame.proofs.Bytes.{Split, split, first-back, second-back}
 use Rattle.open_frame.proofs.Fields.{Listed, listed-is}

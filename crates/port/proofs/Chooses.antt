@@ -1,12 +1,10 @@
 -- A choose that is not refused answers its pick: each of its steps has a word of its own, and names what was picked. Assumes nothing.
 use Prim.Native.Nat.{ℕ}
-use mathlib.Core.Path.{_≡_, refl, sym, ap, subst}
-use mathlib.Core.Bool.{Bool, true, false, cond}
-use mathlib.Core.List.{List}
+use mathlib.Core.Path.{_≡_, refl, sym}
+use mathlib.Core.Bool.{true, false, cond}
 use lib.Dec.{eqb}
 use lib.ListN.{length, getD}
 use Rattle.laws.proofs.Bools.{never, by-test}
-use Rattle.refusals.specs.declared.Refusal.{Refusal}
 use Rattle.refusals.proofs.Causes.{by-causes}
 use Rattle.port_parts.specs.Parts.{blank}
 use Rattle.port_parts.specs.declared.Pick.{Pick}
@@ -14,13 +12,12 @@ use Rattle.port_parts.specs.declared.Port.{Port}
 use Rattle.port_parts.specs.declared.Request.{Request}
 use Rattle.port_rules.specs.Rules.{rules}
 use Rattle.port_rows.specs.Answers.{refusedBy}
-use Rattle.port_rows.specs.Calls.{sent, opening, closing, idle, chosen, chooseCauses, chooseOf}
-use Rattle.port_rows.specs.declared.Answer.{Answer}
+use Rattle.port_rows.specs.Calls.{sent, opening, closing, chosen, chooseCauses, chooseOf}
 use Rattle.port_rows.specs.declared.Done.{Done}
 use Rattle.port_rows.specs.declared.Word.the-variants.{Nothing, Send, Open, Close}
 use Rattle.port.specs.Calls.{pickAt, steppedOf}
 use Rattle.port.specs.Chooses.{wordFor, Tells}
-use Rattle.port.specs.History.{State, choose, doneOf, shortOf, steppedBy, isRefused}
+use Rattle.port.specs.History.{State, choose, doneOf, steppedBy, isRefused}
 use Rattle.port.specs.declared.Moment.{Moment}
 use Rattle.port.specs.declared.Stepped.{Stepped}
 

@@ -5,7 +5,7 @@ use prog.Wp.{Heap}
 use ghost.Atoms.{Atoms}
 use types.Kit.{Given}
 use denote.RattleType.{RattleType}
-use denote.Laws.{Is, Makes, Lawful}
+use denote.Laws.{Lawful}
 use denote.Struct.Laws as LL
 use Rattle.port_walks.proofs.Arg.{Arg}
 use Rattle.port_rules.proofs.Against as Against′

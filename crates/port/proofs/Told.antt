@@ -1,22 +1,20 @@
 -- What a scan finds is what the call's definition speaks of: one pass tests all that the rules test, and asks what the call looks
 -- for, and each part of what it finds is folded by itself. Assumes nothing.
 use Prim.Native.Nat.{ℕ}
-use mathlib.Core.Path.{_≡_, refl, sym, ap, _∙_}
-use mathlib.Core.Bool.{Bool, true, _&&_}
+use mathlib.Core.Path.{_≡_, refl, ap, _∙_}
+use mathlib.Core.Bool.{Bool}
 use mathlib.Core.List.{List}
 use lib.ListN.{getD}
 use Rattle.laws.specs.Folds.{foldTo}
 use Rattle.laws.proofs.Folds.{fold-part, fold-still, fold-both}
 use Rattle.port_parts.specs.Parts.{blank}
-use Rattle.port_parts.specs.Choice.{nothing, chosenStep, chosenOf}
-use Rattle.port_parts.specs.declared.Pick.{Pick}
+use Rattle.port_parts.specs.Choice.{chosenStep}
 use Rattle.port_parts.specs.declared.Port.{Port}
 use Rattle.port_parts.specs.declared.Request.{Request}
 use Rattle.port_rules.specs.Rules.{portRule, requestRule, apartFrom, againstOf, rules}
-use Rattle.port_rows.specs.Finds.{noRoom, roomStep, roomOf, keyStep, keyOf}
+use Rattle.port_rows.specs.Finds.{roomStep, roomOf, keyStep, keyOf}
 use Rattle.port_rows.specs.Calls.{phyAt, submitOf, cancelOf, chooseOf}
 use Rattle.port_rows.specs.declared.Done.{Done}
-use Rattle.port_rows.specs.declared.Room.{Room}
 use Rattle.port_rows.specs.declared.Wish.{Wish}
 use Rattle.port_rows.specs.declared.Withdrawn.{Withdrawn}
 use Rattle.port.specs.Calls.{onPhy, submitCall, cancelCall, pickAt, chooseCall}

@@ -1,7 +1,7 @@
 -- Document 01, 'Refusal numbers': what has to hold for a call of the port to be refused, in its words. Assumes nothing.
-use Prim.Native.Nat.{ℕ, _≤_, _<_}
+use Prim.Native.Nat.{ℕ, _<_}
 use mathlib.Core.Path.{_≡_}
-use mathlib.Core.Bool.{true, false}
+use mathlib.Core.Bool.{true}
 use mathlib.Core.List.{List, [], _∷_}
 use mathlib.Core.Logic.{_⊎_}
 use lib.ListN.{length, getD}
@@ -12,7 +12,6 @@ use Rattle.open_frame.specs.declared.Head.{Head}
 use Rattle.port_parts.specs.Parts.{blank}
 use Rattle.port_parts.specs.Reasons.{reasons}
 use Rattle.port_parts.specs.declared.Phy.{Phy}
-use Rattle.port_parts.specs.declared.Port.{Port}
 use Rattle.port_parts.specs.declared.Request.{Request}
 use Rattle.port_rules.specs.Kept.{InRange, Kept, Free, SameKey}
 use Rattle.port_rows.specs.Calls.{phyAt}

@@ -5,10 +5,8 @@ use mathlib.Core.Bool.{Bool, true, _&&_}
 use mathlib.Core.List.{List}
 use lib.ListN.{getD}
 use Rattle.laws.specs.Folds.{foldTo}
-use Rattle.open_frame.specs.declared.Head.{Head}
 use Rattle.port_parts.specs.Parts.{none, noHead, blank}
 use Rattle.port_parts.specs.Choice.{nothing, chosenStep}
-use Rattle.port_parts.specs.declared.Pick.{Pick}
 use Rattle.port_parts.specs.declared.Port.{Port}
 use Rattle.port_parts.specs.declared.Request.{Request}
 use Rattle.port_rules.specs.Rules.{portRule, requestRule, apartFrom, againstOf}

@@ -11,8 +11,6 @@ use lib.ListN.{getD}
 use borrow.Author.Tests.{eqb-true, eqb-false, eq-eqb, ltb-true}
 use Rattle.laws.specs.Sets.{bit}
 use Rattle.laws.proofs.Bools.{never, and-true, and-false}
-use Rattle.laws.specs.Tests.{Says}
-use Rattle.laws.proofs.Tests.{equal, both, same-or-not}
 use Rattle.open_frame.specs.declared.Head.{Head}
 use Rattle.port_parts.specs.Parts.{blank}
 use Rattle.port_parts.specs.declared.Port.{Port}

@@ -1,6 +1,6 @@
 -- Over any calls from a setup on, what the history says of a key is what the list holds of it: it is so behind the setup, which leaves
 -- all zeros, and each call keeps it so. Assumes nothing.
-use Prim.Native.Nat.{ℕ, _+_, _<_}
+use Prim.Native.Nat.{ℕ, _<_}
 use mathlib.Core.Path.{_≡_, refl, ap, subst, _∙_}
 use mathlib.Core.Bool.{Bool, true, false}
 use mathlib.Core.List.{List, [], _∷_, _++_}

@@ -14,7 +14,7 @@ use Rattle.port_rows.specs.declared.Key.{Key}
 use Rattle.port_rows.specs.declared.Wish.{Wish}
 use Rattle.port_rows.specs.declared.Word.the-variants.{Submitted}
 use Rattle.port.specs.Grounds.{HasKey, Absent}
-use Rattle.port.specs.History.{State, Call, leave, isLast}
+use Rattle.port.specs.History.{State, isLast}
 use Rattle.port_kept.specs.Sound.{Sound}
 use Rattle.port_once.specs.Standing.{Standing, gone, there, wrong, isSubmitted}
 

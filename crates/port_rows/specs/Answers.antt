@@ -1,6 +1,6 @@
 -- Document 01, 'Port': what a call leaves and answers. Assumes nothing.
 use Prim.Native.Nat.{ℕ}
-use mathlib.Core.Bool.{Bool, true, false, not, _&&_}
+use mathlib.Core.Bool.{false, not, _&&_}
 use lib.Dec.{eqb}
 use lib.ListN.{set, replicate}
 use Rattle.refusals.specs.declared.Refusal.{Refusal}

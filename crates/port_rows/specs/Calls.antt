@@ -10,7 +10,6 @@ use Rattle.refusals.specs.declared.Refusal.{Refusal}
 use Rattle.open_frame.specs.Open.{headListed}
 use Rattle.open_frame.specs.Wait.{awtOf}
 use Rattle.open_frame.specs.declared.Awt.{Awt}
-use Rattle.open_frame.specs.declared.Head.{Head}
 use Rattle.open_frame.specs.declared.Pbc.{Pbc}
 use Rattle.port_parts.specs.Parts.{none, stamped, isSet, off, noPhy, isDisabled, isOpening, isIdle, isSending, isClosingIdle, isClosingSending, blank, isWaiting, isSsp, inRange, names, hasFrameOut}
 use Rattle.port_parts.specs.Reasons.{reasonOf, isListed, isRetried, isBlocked, isStarting, isStopping}
@@ -21,12 +20,11 @@ use Rattle.port_parts.specs.declared.Port.{Port}
 use Rattle.port_parts.specs.declared.Reason.{Reason}
 use Rattle.port_parts.specs.declared.Request.{Request}
 use Rattle.port_parts.specs.declared.Stamp.{Stamp}
-use Rattle.port_rows.specs.Answers.{noFrame, nameless, later, withPhy, fresh, noPort, unconnectedPhy, openingPhy, joinedPhy, stagedPhy, unchanged, lossBy, told, refusedBy}
+use Rattle.port_rows.specs.Answers.{nameless, later, withPhy, fresh, noPort, unconnectedPhy, openingPhy, joinedPhy, stagedPhy, unchanged, lossBy, told, refusedBy}
 use Rattle.port_rows.specs.declared.Word.{Word}
 use Rattle.port_rows.specs.declared.Word.the-variants.{Taken, Submitted, Nothing, Send, Open, Close, StopArb, Retried, Waiting, CancelAcknowledged, Ended, NexusLoss, ConnectionLost, Status}
 use Rattle.port_rows.specs.declared.Room.{Room}
 use Rattle.port_rows.specs.declared.Wish.{Wish}
-use Rattle.port_rows.specs.declared.Key.{Key}
 use Rattle.port_rows.specs.declared.Withdrawn.{Withdrawn}
 use Rattle.port_rows.specs.declared.Confirmed.{Confirmed}
 use Rattle.port_rows.specs.declared.Failure.{Failure}

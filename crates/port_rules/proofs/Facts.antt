@@ -1,12 +1,12 @@
 -- The test of a lent state is passed exactly if it keeps the rules: it is joined from tests of numbers, of each phy, of each record
 -- and of each pair of records, and each says its rule. Assumes nothing.
 use Prim.Native.Nat.{ℕ, _+_, _-_, _≤_, _<_}
-use mathlib.Core.Path.{_≡_, refl, sym, ap, subst, _∙_}
-use mathlib.Core.Bool.{Bool, true, false, not, cond, _&&_, _||_}
-use mathlib.Core.Logic.{_⊎_, inl, inr, _↔_}
+use mathlib.Core.Path.{_≡_, refl, sym, subst}
+use mathlib.Core.Bool.{Bool, true, false, cond, _||_}
+use mathlib.Core.Logic.{_↔_}
 use mathlib.Core.List.{List}
 use native.Mathlib.Omega.{arith}
-use lib.Dec.{eqb, leb, ltb}
+use lib.Dec.{leb}
 use lib.ListN.{getD}
 use borrow.Author.Tests.{eqb-true, eqb-false, lt-leb}
 use Rattle.laws.specs.Folds.{allBelow}
@@ -15,12 +15,12 @@ use Rattle.laws.proofs.Tests.{less, most, equal, itself, both, either, implies,
 use Rattle.laws.proofs.Folds.{all-of, fold-all, fold-from-all}
 use Rattle.open_frame.specs.Open.{headListed}
 use Rattle.open_frame.specs.declared.Head.{Head}
-use Rattle.port_parts.specs.Parts.{noPhy, blank, isSet, isSsp, isFree, inRange, sameKey, sameNexus}
+use Rattle.port_parts.specs.Parts.{noPhy, blank, isFree, inRange, sameKey, sameNexus}
 use Rattle.port_parts.specs.declared.Phy.{Phy}
 use Rattle.port_parts.specs.declared.Port.{Port}
 use Rattle.port_parts.specs.declared.Request.{Request}
 use Rattle.port_parts.specs.declared.Stamp.{Stamp}
-use Rattle.port_rules.specs.Rules.{mustName, phyRule, portRule, on, pairedAt, paired, stampsRule, flagsRule, presentRule, requestRule, eachOf, sameTimer, apartRule, againstOf, apartFrom, apartOf, rules}
+use Rattle.port_rules.specs.Rules.{mustName, phyRule, portRule, pairedAt, paired, stampsRule, flagsRule, presentRule, requestRule, eachOf, sameTimer, apartRule, againstOf, apartFrom, apartOf, rules}
 use Rattle.port_rules.specs.Kept.{InRange, MustName, PhyKept, Paired, Stamped, Flags, Present, Free, RequestKept, SameKey, SameNexus, SameTimer, Apart, Kept}
 
 pub range-says : (count loss : ℕ) → Says (inRange count loss) (InRange count loss)

@@ -1,16 +1,16 @@
 -- A line says a command exactly if it is that command written: a word is compared whole, and a number's digits are its own alone.
 -- Assumes nothing.
-use Prim.Native.Nat.{ℕ, zero, suc, _+_, _^_, _≤_, _<_}
-use mathlib.Core.Bool.{Bool, true, false, not, cond, _&&_}
-use mathlib.Core.List.{List, [], _∷_, _++_}
+use Prim.Native.Nat.{ℕ, _≤_}
+use mathlib.Core.Bool.{true, not, cond}
+use mathlib.Core.List.{List, [], _∷_}
 use mathlib.Core.Path.{_≡_, refl, sym, ap, _∙_}
 use native.Mathlib.Omega.{arith}
-use borrow.Author.Tests.{leb-true, ne-eqb}
-use lib.Dec.{eqb, leb}
+use borrow.Author.Tests.{ne-eqb}
+use lib.Dec.{leb}
 use lib.ListN.{length, length-append}
 use Rattle.laws.proofs.Bools.{and-left, and-right, and-true, by-test}
 use Rattle.lines.specs.Numbers.{isDigit, allDigits, readNumber, decimal}
-use Rattle.lines.specs.Parts.{tab, joined, fieldsOf, fieldsWithin, same}
+use Rattle.lines.specs.Parts.{tab, joined, fieldsOf, same}
 use Rattle.lines.specs.declared.Number.{Number}
 use Rattle.lines.specs.declared.Number.the-variants.{Value, Not}
 use Rattle.lines.proofs.Numbers.{digit-range, decimal-digits, decimal-short, read-written, written-read}

@@ -1,7 +1,7 @@
 -- What a run says of a whole input, taken in any blocks, and of its end is document 01's output: each LF ends the line that was
 -- put together before it, and one byte more than the longest line tells a line that is too long. Assumes nothing.
-use Prim.Native.Nat.{ℕ, zero, suc, _+_, _-_, _≤_, _<_}
-use mathlib.Core.Bool.{Bool, true, false, not, cond, _&&_}
+use Prim.Native.Nat.{ℕ, suc, _+_, _-_, _≤_, _<_}
+use mathlib.Core.Bool.{Bool, true, false, cond, _&&_}
 use mathlib.Core.List.{List, [], _∷_, _++_, append-nil, append-assoc}
 use mathlib.Core.Path.{_≡_, refl, sym, ap, _∙_}
 use native.Mathlib.Omega.{arith}
@@ -13,9 +13,6 @@ use Rattle.laws.proofs.Bools.{and-false, by-test}
 use Rattle.laws.proofs.Lists.{lent-tail}
 use Rattle.lines.specs.Parts.{lf, linesOf}
 use Rattle.lines.proofs.Parts.{free, first-part, one-line, free-end}
-use Rattle.transfer.specs.Rules.{before}
-use Rattle.transfer.specs.declared.Transfer.{Transfer}
-use Rattle.transfer.specs.declared.Stepped.{Stepped}
 use Rattle.runs.specs.Commands.{readLine, obeyed}
 use Rattle.runs.specs.Rows.{row, longestRow}
 use Rattle.runs.specs.Feed.{Carry, enough, carryOf, runOf, fresh, next, stepped, ended, longer, rowAt, saidAt, afterByte, after, said, takes, takenOf, fedOf, Feeds, closing}

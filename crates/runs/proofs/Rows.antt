@@ -1,10 +1,7 @@
 -- A row has at most 71 bytes, since each of its parts is short. Assumes nothing.
-use Prim.Native.Nat.{ℕ, _+_, _^_, _≤_, _<_}
-use mathlib.Core.Path.{_≡_}
-use mathlib.Core.List.{List, [], _∷_, _++_}
+use Prim.Native.Nat.{ℕ, _≤_, _<_}
 use native.Mathlib.Omega.{arith}
 use lib.ListN.{length, length-append}
-use Rattle.lines.specs.Numbers.{decimal}
 use Rattle.lines.proofs.Numbers.{decimal-short}
 use Rattle.refusals.specs.Refusals.{numberOf}
 use Rattle.refusals.proofs.Numbers.{range}

@@ -1,7 +1,7 @@
 -- A turn of `feed` takes one line more, and where it stops, it has taken what its promise says. Assumes nothing.
-use Prim.Native.Nat.{ℕ, _+_, _-_, _≤_, _<_}
+use Prim.Native.Nat.{ℕ, _+_, _-_, _≤_}
 use mathlib.Core.Bool.{Bool, true, false, _||_}
-use mathlib.Core.List.{List, [], _∷_, _++_, append-nil}
+use mathlib.Core.List.{List, [], _++_}
 use mathlib.Core.Path.{_≡_, refl, sym, ap, _∙_, subst}
 use native.Mathlib.Omega.{arith}
 use borrow.Author.Tests.{eq-eqb}
@@ -16,9 +16,8 @@ use Rattle.transfer.specs.declared.Transfer.{Transfer}
 use Rattle.runs.specs.Rows.{row, longestRow}
 use Rattle.runs.specs.Feed.{Carry, enough, carryOf, runOf, next, stepped, ended, rowAt, after, said, takes, fedOf, Takes, Feeds}
 use Rattle.runs.specs.declared.Run.{Run}
-use Rattle.runs.specs.declared.Fed.{Fed}
 use Rattle.runs.specs.declared.Taken.{Taken}
-use Rattle.runs.proofs.Carry.{on, Going, going-first, part, there, stops, going-line, end-inside, end-behind}
+use Rattle.runs.proofs.Carry.{on, Going, going-first, there, stops, going-line, end-inside}
 
 -- the carry of a run whose parts these are
 abbrev pub carry : ℕ → ℕ → List ℕ → Transfer → Carry

@@ -1,6 +1,6 @@
 -- Document 01, 'Read transfer': what a line of input says. Assumes nothing.
 use Prim.Native.Nat.{ℕ, _≤_}
-use mathlib.Core.Bool.{Bool, true, false, cond}
+use mathlib.Core.Bool.{cond}
 use mathlib.Core.List.{List, [], _∷_}
 use Rattle.lines.specs.Numbers.{readNumber, decimal}
 use Rattle.lines.specs.Parts.{tab, joined, fieldsWithin, fieldAt, same}

@@ -5,32 +5,30 @@ use mathlib.Core.Bool.{Bool, true, false, not, cond}
 use mathlib.Core.List.{List, [], _∷_, _++_, map-append}
 use mathlib.Core.Path.{_≡_, refl, sym, ap, _∙_}
 use native.Mathlib.Omega.{arith}
-use lib.Dec.{eqb, leb}
+use lib.Dec.{eqb}
 use lib.ListN.{length, take, drop}
 use lib.Seq.{take-at}
-use borrow.Author.Tests.{not-false, eqb-true, eqb-false}
+use borrow.Author.Tests.{not-false, eqb-true}
 use Rattle.laws.proofs.Bools.{and-left}
-use Rattle.refusals.specs.Causes.{Cause, _when_, refuse}
+use Rattle.refusals.specs.Causes.{_when_}
 use Rattle.refusals.specs.declared.Refusal.{Refusal}
-use Rattle.refusals.proofs.Causes.{NoneGiven, none-append, Verdict, stopped, passes, verdict, unrefused}
+use Rattle.refusals.proofs.Causes.{none-append, Verdict, stopped, passes, verdict, unrefused}
 use Rattle.ssp_frame.specs.Data.{frameEnd, dataBytes, dataLeft, dataListed, readData}
 use Rattle.ssp_frame.specs.declared.data.DataHead.{DataHead}
 use Rattle.ssp_frame.specs.declared.data.DataRead.{DataRead}
-use Rattle.ssp_frame.specs.declared.data.DataRead.the-variants.{Frame as Data}
 use Rattle.ssp_frame.proofs.Fields.{listed-is}
 use Rattle.ssp_frame.proofs.Trip.{read-written, frame-long, body-held}
-use Rattle.transfer.specs.Rules.{endOf, rules}
 use Rattle.transfer.specs.Steps.{frameLength, framed, refused, frameCauses, frameStep}
 use Rattle.transfer.specs.Calls as plainly
-use Rattle.transfer.specs.Log.{nextFrame, entriesOf}
+use Rattle.transfer.specs.Log.{nextFrame}
 use Rattle.transfer.specs.History.{Frame, Entry, EntryOf, sent, entryOf as entryFor, entries, isRefused}
 use Rattle.transfer.specs.declared.Transfer.{Transfer}
 use Rattle.transfer.specs.declared.Stepped.{Stepped}
 use Rattle.transfer.specs.declared.Answer.{Answer}
 use Rattle.transfer.proofs.Calls.{frame-fits}
 use Rattle.send.specs.Send.{changingOf, headOf, fitting, nextCauses, nextStep, nextBytes, isSent}
-use Rattle.send.specs.Calls.{Call, plain, next, stepOf}
-use Rattle.send.specs.History.{Shot, found, written, unwritten, shotsOf, frameOf, entryOf, frames}
+use Rattle.send.specs.Calls.{Call, next}
+use Rattle.send.specs.History.{Shot, found, written, shotsOf, frameOf, entryOf, frames}
 use Rattle.send.proofs.Laws.{Long, long}
 
 pub apart : _≡_ {A = ℕ} 0 1 → ⊥

@@ -2,7 +2,7 @@
 -- the invariant of the transfer is kept by plain calls and next-frame calls alike. Assumes nothing.
 use Prim.Native.Nat.{ℕ}
 use mathlib.Core.List.{List, [], _∷_, _++_}
-use mathlib.Core.Path.{_≡_, sym, subst}
+use mathlib.Core.Path.{sym, subst}
 use Rattle.laws.proofs.Bools.{never}
 use Rattle.refusals.specs.declared.Refusal.{Refusal}
 use Rattle.transfer.specs.Rules.{before}

@@ -3,14 +3,14 @@
 use Prim.Native.Nat.{ℕ, _+_, _-_, _≤_, _<_}
 use mathlib.Core.Bool.{Bool, true, false, cond}
 use mathlib.Core.List.{List, [], _∷_, _++_, map, map-append}
-use mathlib.Core.Logic.{_⊎_, inl, inr}
+use mathlib.Core.Logic.{inl, inr}
 use mathlib.Core.Path.{_≡_, refl, sym, ap, subst, _∙_}
 use native.Mathlib.Omega.{arith}
 use lib.ListN.{length, getD, take, drop}
 use lib.Seq.{getD-take, getD-drop}
 use Rattle.transfer.specs.Rules.{endOf, before}
 use Rattle.transfer.specs.Calls as plainly
-use Rattle.transfer.specs.History.{Frame, Entry, EntryOf, started, sent, acked, naked, timedOut, wasLost, ended, entryOf as entryFor, entries, isRefused, ViewOf, View, anew, closeBy, popAck, popNak, note, view, Covered}
+use Rattle.transfer.specs.History.{Frame, EntryOf, started, sent, acked, naked, timedOut, wasLost, ended, entryOf as entryFor, entries, isRefused, ViewOf, View, anew, closeBy, popAck, popNak, note, view, Covered}
 use Rattle.transfer.specs.declared.Transfer.{Transfer}
 use Rattle.transfer.specs.declared.Stepped.{Stepped}
 use Rattle.transfer.specs.declared.Answer.{Answer}

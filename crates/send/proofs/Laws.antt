@@ -5,10 +5,10 @@ use mathlib.Core.Bool.{Bool, true, false, not, cond, _&&_}
 use mathlib.Core.List.{List, [], _∷_}
 use mathlib.Core.Path.{_≡_, refl, sym, ap, _∙_}
 use native.Mathlib.Omega.{arith}
-use lib.Dec.{eqb, leb}
+use lib.Dec.{leb}
 use lib.ListN.{length}
-use borrow.Author.Tests.{eqb-false, eqb-true, eq-eqb, ne-eqb, le-leb, lt-ltb, not-false}
-use Rattle.laws.proofs.Bools.{never, and-true, and-false}
+use borrow.Author.Tests.{eqb-false, eq-eqb, le-leb, lt-ltb, not-false}
+use Rattle.laws.proofs.Bools.{never}
 use Rattle.refusals.specs.Causes.{Cause, _when_, refuse, Wrote}
 use Rattle.refusals.specs.declared.Refusal.{Refusal}
 use Rattle.refusals.specs.declared.Written.{Written}
@@ -17,14 +17,13 @@ use Rattle.refusals.proofs.Causes.{refuse-append, Verdict, stopped, passes, ver
 use Rattle.refusals.proofs.Frames.{by-length, wrote-is}
 use Rattle.ssp_frame.specs.Data.{frameEnd, dataLeft, dataSized, dataListed, writeCauses}
 use Rattle.ssp_frame.specs.declared.data.DataHead.{DataHead}
-use Rattle.transfer.specs.Rules.{endOf, rules}
-use Rattle.transfer.specs.Steps.{frameLength, framed, refused, unfinished, allSent, frameCauses, frameStep}
+use Rattle.transfer.specs.Rules.{endOf}
+use Rattle.transfer.specs.Steps.{frameLength, framed, refused, frameCauses, frameStep}
 use Rattle.transfer.specs.declared.Transfer.{Transfer}
 use Rattle.transfer.specs.declared.Stepped.{Stepped}
-use Rattle.transfer.specs.declared.Answer.{Answer}
 use Rattle.refusals.proofs.Causes.{by-causes}
 use Rattle.transfer.proofs.Calls.{underway}
-use Rattle.send.specs.Send.{fitting, nextCauses, nextStep, nextBytes, Went, isSent, isDone}
+use Rattle.send.specs.Send.{fitting, nextStep, nextBytes, Went, isSent, isDone}
 
 -- the causes of its own, by their tests
 abbrev own : Bool → Bool → List Cause

@@ -8,11 +8,11 @@ use lib.ListN.{length}
 use Rattle.transfer.specs.Rules.{before}
 use Rattle.transfer.specs.Calls as plainly
 use Rattle.transfer.specs.Log.{nextFrame}
-use Rattle.transfer.specs.History.{Entry, EntryOf, sent, entries, view, firstResent}
+use Rattle.transfer.specs.History.{sent, entries, view, firstResent}
 use Rattle.transfer.specs.declared.Transfer.{Transfer}
 use Rattle.transfer.specs.declared.Stepped.{Stepped}
 use Rattle.transfer.specs.declared.Phase.{Phase}
-use Rattle.transfer.proofs.Balance.{Inv, at-first}
+use Rattle.transfer.proofs.Balance.{at-first}
 use Rattle.transfer.proofs.Demand.{goes, first-again}
 use Rattle.send.specs.Send.{changingOf, headOf, nextBytes}
 use Rattle.send.specs.Calls.{Call, plain, next, stepOf, run, Typed, AllTyped}

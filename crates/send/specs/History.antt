@@ -12,7 +12,6 @@ use Rattle.transfer.specs.Calls as plainly
 use Rattle.transfer.specs.Log.{nextFrame}
 use Rattle.transfer.specs.History.{Frame, EntryOf, started, sent, acked, naked, timedOut, wasLost, ended, Entry, entries}
 use Rattle.transfer.specs.declared.Transfer.{Transfer}
-use Rattle.transfer.specs.declared.Answer.{Answer}
 use Rattle.send.specs.Send.{changingOf, headOf, nextBytes}
 use Rattle.send.specs.Calls.{Call, plain, next, stepOf}
 

@@ -1,9 +1,9 @@
 -- The header's round trips: its fields fill the 24 bytes without a gap. Assumes nothing.
-use mathlib.Core.Path.{_≡_, _∙_, ap}
+use mathlib.Core.Path.{_≡_}
 use mathlib.Core.List.{List, _++_}
 use Prim.Native.Nat.{ℕ, _%_, _^_, _≤_, _<_}
 use native.Mathlib.Omega.{arith}
-use lib.ListN.{length, getD, take, drop}
+use lib.ListN.{length, getD, take}
 use Rattle.wire.specs.Be.{beAt}
 use Rattle.wire.specs.Fields.{layBytes}
 use Rattle.wire.proofs.Laws.{beAt-beBytes, byte-back, beBytes-beAt, known-back}

@@ -3,10 +3,9 @@
 use mathlib.Core.Path.{_≡_, refl, _∙_, ap, sym, subst}
 use mathlib.Core.Bool.{true, _&&_}
 use mathlib.Core.List.{List, _++_, append-assoc}
-use Prim.Native.Nat.{ℕ, _+_, _-_, _%_, _^_, _<_, _≤_}
+use Prim.Native.Nat.{ℕ, _+_, _-_, _<_, _≤_}
 use native.Mathlib.Nat.{add-assoc}
 use native.Mathlib.Omega.{arith}
-use lib.Dec.{eqb}
 use lib.ListN.{length, getD, take, drop, replicate, length-append, length-drop, length-replicate, take-append-drop}
 use lib.Seq.{take-all, take-append-seam, drop-drop, length-take-le}
 use borrow.Author.Tests.{eq-eqb, eqb-true}
@@ -21,7 +20,6 @@ use Rattle.ssp_frame.specs.Data.{fillOf, frameEnd, dataHeader, dataBytes
 use Rattle.ssp_frame.specs.declared.header.Header.{Header}
 use Rattle.ssp_frame.specs.declared.data.DataHead.{DataHead}
 use Rattle.ssp_frame.specs.declared.data.DataFrame.{DataFrame}
-use Rattle.ssp_frame.specs.declared.data.DataRead.{DataRead}
 use Rattle.ssp_frame.specs.declared.data.DataRead.the-variants.{Frame, Refused}
 use Rattle.ssp_frame.proofs.Fields.{Listed, Sized, sized, is-sized, Laid, laid, is-laid}
 use Rattle.ssp_frame.proofs.Heads.{Widths, header-back, header-forth}

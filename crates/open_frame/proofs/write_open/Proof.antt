@@ -1,5 +1,5 @@
 -- Each way out of `write_open` is a way out of a frame's writer: its tests are those of `writeCauses`. Assumes nothing.
-use mathlib.Core.Path.{_≡_, sym, _∙_}
+use mathlib.Core.Path.{sym, _∙_}
 use lib.ListN.{length}
 use denote.Ref.{now}
 use borrow.Author.Needs.{needs}

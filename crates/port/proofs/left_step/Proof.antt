@@ -3,10 +3,6 @@ use borrow.Author.Tests.{eq-eqb, ne-eqb}
 use borrow.Author.Needs.{needs}
 use Rattle.port.proofs.left_step.Statement.{statement}
 use Rattle.port.proofs.left_step.Tie as tie
-use Rattle.port.proofs.left_step.Reads as reads
-use Rattle.port.proofs.left_step.Lts as lts
-use Rattle.port.proofs.empty.Reads as empty-reads
-use Rattle.port.proofs.spread.Reads as spread-reads
 
 empty-requires : tie.Need-empty-requires
 empty-requires c κs = search needs

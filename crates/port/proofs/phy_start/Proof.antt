@@ -2,10 +2,6 @@
 use borrow.Author.Needs.{needs}
 use Rattle.port.proofs.phy_start.Statement.{statement}
 use Rattle.port.proofs.phy_start.Tie as tie
-use Rattle.port.proofs.phy_start.Reads as reads
-use Rattle.port.proofs.phy_start.Lts as lts
-use Rattle.port_core.proofs.phy_at.Reads as phy-at-reads
-use Rattle.port_rules.proofs.port_rule.Reads as port-rule-reads
 
 phy-at-requires : tie.Need-phy-at-requires
 phy-at-requires c κs = search needs

@@ -2,10 +2,6 @@
 use borrow.Author.Needs.{needs}
 use Rattle.port.proofs.pick_join.Statement.{statement}
 use Rattle.port.proofs.pick_join.Tie as tie
-use Rattle.port.proofs.pick_join.Reads as reads
-use Rattle.port.proofs.pick_join.Lts as lts
-use Rattle.port_parts.proofs.chosen_step.Reads as chosen-step-reads
-use Rattle.port_rules.proofs.request_rule.Reads as request-rule-reads
 
 request-rule-requires : tie.Need-request-rule-requires
 request-rule-requires c κs = search needs

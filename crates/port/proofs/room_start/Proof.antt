@@ -2,10 +2,6 @@
 use borrow.Author.Needs.{needs}
 use Rattle.port.proofs.room_start.Statement.{statement}
 use Rattle.port.proofs.room_start.Tie as tie
-use Rattle.port.proofs.room_start.Reads as reads
-use Rattle.port.proofs.room_start.Lts as lts
-use Rattle.port_core.proofs.no_room.Reads as no-room-reads
-use Rattle.port_rules.proofs.port_rule.Reads as port-rule-reads
 
 port-rule-requires : tie.Need-port-rule-requires
 port-rule-requires c κs = search needs

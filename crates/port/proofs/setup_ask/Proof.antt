@@ -2,9 +2,6 @@
 use borrow.Author.Needs.{needs}
 use Rattle.port.proofs.setup_ask.Statement.{statement}
 use Rattle.port.proofs.setup_ask.Tie as tie
-use Rattle.port.proofs.setup_ask.Reads as reads
-use Rattle.port.proofs.setup_ask.Lts as lts
-use Rattle.port.proofs.empty.Reads as empty-reads
 
 empty-requires : tie.Need-empty-requires
 empty-requires c κs = search needs

@@ -2,10 +2,6 @@
 use borrow.Author.Needs.{needs}
 use Rattle.port.proofs.short.Statement.{statement}
 use Rattle.port.proofs.short.Tie as tie
-use Rattle.port.proofs.short.Reads as reads
-use Rattle.port.proofs.short.Lts as lts
-use Rattle.port.proofs.answered.Reads as answered-reads
-use Rattle.port_core.proofs.refused.Reads as refused-reads
 
 refused-requires : tie.Need-refused-requires
 refused-requires c κs = search needs

@@ -2,10 +2,6 @@
 use borrow.Author.Needs.{needs}
 use Rattle.port.proofs.short_setup.Statement.{statement}
 use Rattle.port.proofs.short_setup.Tie as tie
-use Rattle.port.proofs.short_setup.Reads as reads
-use Rattle.port.proofs.short_setup.Lts as lts
-use Rattle.port.proofs.short.Reads as short-reads
-use Rattle.port_core.proofs.no_port.Reads as no-port-reads
 
 no-port-requires : tie.Need-no-port-requires
 no-port-requires c κs = search needs

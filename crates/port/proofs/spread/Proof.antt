@@ -2,9 +2,6 @@
 use borrow.Author.Needs.{needs}
 use Rattle.port.proofs.spread.Statement.{statement}
 use Rattle.port.proofs.spread.Tie as tie
-use Rattle.port.proofs.spread.Reads as reads
-use Rattle.port.proofs.spread.Lts as lts
-use Rattle.port_core.proofs.timed.Reads as timed-reads
 
 timed-requires : tie.Need-timed-requires
 timed-requires c κs = search needs

@@ -1,5 +1,4 @@
 -- Cancel Acknowledged comes before a reason that ends, and that before I_T Nexus Loss, as the `cond`s nest. Assumes nothing.
-use borrow.Author.Needs.{needs}
 use Rattle.port_core.proofs.failed_word.Statement.{statement}
 use Rattle.port_core.proofs.failed_word.Tie as tie
 

@@ -2,7 +2,6 @@
 use borrow.Author.Needs.{needs}
 use Rattle.port_core.proofs.opening.Statement.{statement}
 use Rattle.port_core.proofs.opening.Tie as tie
-use Rattle.open_frame.proofs.wait_value.Reads as wait-value-reads
 
 with-phy-requires : tie.Need-with-phy-requires
 with-phy-requires c κs = search needs

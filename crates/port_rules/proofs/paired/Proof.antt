@@ -4,12 +4,11 @@ use mathlib.Core.Path.{_≡_, refl, _∙_}
 use mathlib.Core.Bool.{not, _&&_, _||_}
 use Prim.Native.Nat.{_-_, _≤_}
 use native.Mathlib.Omega.{arith}
-use native.Mathlib.Numerals.{add-one}
 use lib.Dec.{ltb}
 use lib.ListN.{getD}
 use Rattle.laws.specs.Folds.{allBelow}
-use Rattle.port_parts.specs.Parts.{noPhy, isInProgress, inRange}
-use Rattle.port_rules.specs.Rules.{phyRule, portRule, pairedAt, paired}
+use Rattle.port_parts.specs.Parts.{noPhy, isInProgress}
+use Rattle.port_rules.specs.Rules.{pairedAt, paired}
 use Rattle.port_rules.proofs.paired.Statement.{statement}
 use Rattle.port_rules.proofs.paired.Tie as tie
 

@@ -1,15 +1,13 @@
 -- The loop tests one phy more at each turn. Assumes nothing.
 use Rattle.laws.proofs.Folds.{all-start, all-next}
 use mathlib.Core.Path.{_≡_, refl, _∙_}
-use mathlib.Core.Bool.{not, _&&_, _||_}
+use mathlib.Core.Bool.{_&&_}
 use Prim.Native.Nat.{_-_, _≤_}
 use native.Mathlib.Omega.{arith}
-use native.Mathlib.Numerals.{add-one}
-use lib.Dec.{ltb}
 use lib.ListN.{getD}
 use Rattle.laws.specs.Folds.{allBelow}
-use Rattle.port_parts.specs.Parts.{noPhy, isInProgress, inRange}
-use Rattle.port_rules.specs.Rules.{phyRule, portRule, pairedAt, paired}
+use Rattle.port_parts.specs.Parts.{noPhy, inRange}
+use Rattle.port_rules.specs.Rules.{phyRule, portRule}
 use Rattle.port_rules.proofs.port_rule.Statement.{statement}
 use Rattle.port_rules.proofs.port_rule.Tie as tie
 

@@ -2,7 +2,7 @@
 use mathlib.Core.Path.{_∙_, sym}
 use denote.Ref.{now}
 use borrow.Author.Needs.{needs}
-use Rattle.sonerwal.specs.Face.{Called, data6}
+use Rattle.sonerwal.specs.Face.{data6}
 use Rattle.sonerwal.proofs.Laws.{data-read}
 use Rattle.ssp_frame.specs.declared.data.DataFrame.{DataFrame}
 use Rattle.sonerwal.proofs.sas_data_read.Statement.{statement}

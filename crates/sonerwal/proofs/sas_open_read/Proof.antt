@@ -1,8 +1,8 @@
 -- The reader found a frame, whose fields are left, or refused, and all stays. Assumes nothing.
-use mathlib.Core.Path.{_∙_, sym, ap}
+use mathlib.Core.Path.{_∙_, sym}
 use denote.Ref.{now}
 use borrow.Author.Needs.{needs}
-use Rattle.sonerwal.specs.Face.{Called, open9}
+use Rattle.sonerwal.specs.Face.{open9}
 use Rattle.sonerwal.proofs.Laws.{open-read}
 use Rattle.open_frame.specs.declared.OpenFrame.{OpenFrame}
 use Rattle.sonerwal.proofs.sas_open_read.Statement.{statement}

@@ -1,7 +1,7 @@
 -- A word of zeros that ends the frame leaves the fill behind the data, and where there is no fill nothing has to be done.
 -- Assumes nothing.
 use mathlib.Core.Path.{_≡_, _∙_, ap, sym}
-use mathlib.Core.List.{List, _++_}
+use mathlib.Core.List.{_++_}
 use Prim.Native.Nat.{ℕ, _+_}
 use native.Mathlib.Nat.{add-zero}
 use lib.ListN.{drop, replicate}

@@ -1,9 +1,9 @@
 -- Each way out of `write_data` is a way out of a frame's writer; the last writes the header, and then lends the part behind it.
 -- Assumes nothing.
 use mathlib.Core.Path.{_≡_, refl, _∙_, ap, sym}
-use mathlib.Core.List.{List, _++_}
+use mathlib.Core.List.{_++_}
 use mathlib.Core.Bool.{true}
-use Prim.Native.Nat.{ℕ, _+_, _-_}
+use Prim.Native.Nat.{ℕ, _+_}
 use native.Mathlib.Omega.{arith}
 use lib.ListN.{length, drop, replicate, length-drop}
 use denote.Ref.{now}
@@ -13,8 +13,7 @@ use Rattle.laws.proofs.Lists.{lent-tail}
 use Rattle.wire.specs.Fields.{layBytes}
 use Rattle.refusals.proofs.Frames.{wrote-length, wrote-field, wrote-done}
 use Rattle.ssp_frame.specs.Header.{headerFields}
-use Rattle.ssp_frame.specs.Data.{fillOf, dataHeader, dataLeft, dataSized, dataListed}
-use Rattle.ssp_frame.specs.declared.data.DataHead.{DataHead}
+use Rattle.ssp_frame.specs.Data.{dataHeader, dataLeft, dataSized, dataListed}
 use Rattle.ssp_frame.specs.declared.header.Header.{Header}
 use Rattle.ssp_frame.proofs.Fields.{Fitting, fitting}
 use Rattle.ssp_frame.proofs.Payload.{framed}
