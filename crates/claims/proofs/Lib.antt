@@ -3,6 +3,7 @@ pub mod Balance
 mod Calls
 pub mod Examples
 pub mod Exact
+pub mod Faces
 pub mod Frames
 pub mod Leaving
 pub mod Links

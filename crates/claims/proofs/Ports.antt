@@ -58,7 +58,7 @@ use Rattle.port_kept.proofs.Runs.{kept-sound, kept-since, run-length, never-thr
 use Rattle.port_kept.proofs.Timers.{timers-run-on}
 use Rattle.claims.proofs.Walked.{Means}
 
-abbrev lent : Port → List Request → State
+abbrev pub lent : Port → List Request → State
 lent p l = record { port = p; list = l }
 
 pub record Ports : Type 2 where

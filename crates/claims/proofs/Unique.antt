@@ -189,7 +189,6 @@ use Rattle.port_core.proofs.enable_core.Kinds as port-enable-core-of
 use Rattle.port_core.proofs.enable_core.Reads as port-enable-core
 use Rattle.port_core.proofs.disable_core.Kinds as port-disable-core-of
 use Rattle.port_core.proofs.disable_core.Reads as port-disable-core
-use Rattle.port.specs.Calls.{short, shortSetup, setupCall, submitCall, cancelCall, chooseCall, openedCall, openFailedCall, frameStatusCall, closedCall, enableCall, disableCall}
 use Rattle.port_rows.specs.Answers.{noPort}
 use Rattle.port.proofs.setup as call-setup
 use Rattle.port.proofs.submit as call-submit
@@ -233,7 +232,7 @@ use Rattle.bench_ports.proofs.port_enable as port-enable
 use Rattle.bench_ports.proofs.port_disable as port-disable
 use Rattle.claims.proofs.Walked.{OneEnd}
 use Rattle.claims.proofs.Ports.{ports}
-use Rattle.bench_ports.specs.Face.{Told}
+use Rattle.claims.proofs.Faces.{faces}
 
 -- a function of n lifetimes, parameters ps and result r has one outcome: its answer, and what `left` reads of the lent at exit
 abbrev One : (n : ℕ) (ps : List (kinds.PK n)) (r : kinds.RK n) {L : Type 0} → ((κs : Lifetimes.Lfts n) → Clauses.AtExit (kinds.endedOf n ps r) κs → L) → kinds.Out n ps r → Type 0
@@ -526,14 +525,14 @@ unique = record {
   bench-next = λ κs a x y s t p q. (p .answer ∙ sym (q .answer), p .bytes ∙ sym (q .bytes));
   bench-calls = λ κs a x y s t p q. (p .answer ∙ sym (q .answer), p .bytes ∙ sym (q .bytes));
   bench-links = λ κs a x y s t p q. (p ∙ sym q, refl);
-  port-setup = ((λ κs a r e. Told (now (a .0)) (setupCall (now (a .0)) (a .1 .0) (a .1 .1 .0)) (shortSetup (a .1 .0)) r (now (e .0))), (record { is = λ w κs a g r. refl }, λ κs a x y s t p q. (p .0 ∙ sym (q .0), p .1 ∙ sym (q .1))));
-  port-submit = ((λ κs a r e. Told (now (a .0)) (submitCall (now (a .0)) (a .1 .0) (a .1 .1 .0)) (short (a .1 .0)) r (now (e .0))), (record { is = λ w κs a g r. refl }, λ κs a x y s t p q. (p .0 ∙ sym (q .0), p .1 ∙ sym (q .1))));
-  port-cancel = ((λ κs a r e. Told (now (a .0)) (cancelCall (now (a .0)) (a .1 .0) (a .1 .1 .0)) (short (a .1 .0)) r (now (e .0))), (record { is = λ w κs a g r. refl }, λ κs a x y s t p q. (p .0 ∙ sym (q .0), p .1 ∙ sym (q .1))));
-  port-choose = ((λ κs a r e. Told (now (a .0)) (chooseCall (now (a .0)) (a .1 .0) (a .1 .1 .0)) (short (a .1 .0)) r (now (e .0))), (record { is = λ w κs a g r. refl }, λ κs a x y s t p q. (p .0 ∙ sym (q .0), p .1 ∙ sym (q .1))));
-  port-opened = ((λ κs a r e. Told (now (a .0)) (openedCall (now (a .0)) (a .1 .0) (a .1 .1 .0)) (short (a .1 .0)) r (now (e .0))), (record { is = λ w κs a g r. refl }, λ κs a x y s t p q. (p .0 ∙ sym (q .0), p .1 ∙ sym (q .1))));
-  port-open-failed = ((λ κs a r e. Told (now (a .0)) (openFailedCall (now (a .0)) (a .1 .0) (a .1 .1 .0)) (short (a .1 .0)) r (now (e .0))), (record { is = λ w κs a g r. refl }, λ κs a x y s t p q. (p .0 ∙ sym (q .0), p .1 ∙ sym (q .1))));
-  port-frame-status = ((λ κs a r e. Told (now (a .0)) (frameStatusCall (now (a .0)) (a .1 .0) (a .1 .1 .0)) (short (a .1 .0)) r (now (e .0))), (record { is = λ w κs a g r. refl }, λ κs a x y s t p q. (p .0 ∙ sym (q .0), p .1 ∙ sym (q .1))));
-  port-closed = ((λ κs a r e. Told (now (a .0)) (closedCall (now (a .0)) (a .1 .0) (a .1 .1 .0)) (short (a .1 .0)) r (now (e .0))), (record { is = λ w κs a g r. refl }, λ κs a x y s t p q. (p .0 ∙ sym (q .0), p .1 ∙ sym (q .1))));
-  port-enable = ((λ κs a r e. Told (now (a .0)) (enableCall (now (a .0)) (a .1 .0) (a .1 .1 .0)) (short (a .1 .0)) r (now (e .0))), (record { is = λ w κs a g r. refl }, λ κs a x y s t p q. (p .0 ∙ sym (q .0), p .1 ∙ sym (q .1))));
-  port-disable = ((λ κs a r e. Told (now (a .0)) (disableCall (now (a .0)) (a .1 .0) (a .1 .1 .0)) (short (a .1 .0)) r (now (e .0))), (record { is = λ w κs a g r. refl }, λ κs a x y s t p q. (p .0 ∙ sym (q .0), p .1 ∙ sym (q .1))));
+  port-setup = (_, (faces .port-setup noPort, λ κs a x y s t p q. (p .0 ∙ sym (q .0), p .1 ∙ sym (q .1))));
+  port-submit = (_, (faces .port-submit, λ κs a x y s t p q. (p .0 ∙ sym (q .0), p .1 ∙ sym (q .1))));
+  port-cancel = (_, (faces .port-cancel, λ κs a x y s t p q. (p .0 ∙ sym (q .0), p .1 ∙ sym (q .1))));
+  port-choose = (_, (faces .port-choose, λ κs a x y s t p q. (p .0 ∙ sym (q .0), p .1 ∙ sym (q .1))));
+  port-opened = (_, (faces .port-opened, λ κs a x y s t p q. (p .0 ∙ sym (q .0), p .1 ∙ sym (q .1))));
+  port-open-failed = (_, (faces .port-open-failed, λ κs a x y s t p q. (p .0 ∙ sym (q .0), p .1 ∙ sym (q .1))));
+  port-frame-status = (_, (faces .port-frame-status, λ κs a x y s t p q. (p .0 ∙ sym (q .0), p .1 ∙ sym (q .1))));
+  port-closed = (_, (faces .port-closed, λ κs a x y s t p q. (p .0 ∙ sym (q .0), p .1 ∙ sym (q .1))));
+  port-enable = (_, (faces .port-enable, λ κs a x y s t p q. (p .0 ∙ sym (q .0), p .1 ∙ sym (q .1))));
+  port-disable = (_, (faces .port-disable, λ κs a x y s t p q. (p .0 ∙ sym (q .0), p .1 ∙ sym (q .1))));
 }
