@@ -60,7 +60,8 @@ fn all_acked(mut s: Transfer, rounds: u32) -> Transfer
     s
 }
 
-// So many next-frame calls, all with the same data and output. The loop stands here alone, so that the call is made part of it.
+// So many next-frame calls, all with the same data and output. No other function here makes that call, so that the compiler makes
+// it part of the loop.
 fn all_next(
     first: Stepped,
     rounds: u32,
