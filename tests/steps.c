@@ -84,8 +84,9 @@ static enum said push(struct model *t)
 	return SAID_SENT;
 }
 
-/* 01 REFUSAL.7 01 REFUSAL.8 01 REFUSAL.10 01 REFUSAL.13 */
-static enum said frame(struct model *t, bool goes)
+/* What is said of a frame that goes next.
+ * 01 REFUSAL.7 01 REFUSAL.8 01 REFUSAL.10 01 REFUSAL.13 */
+static enum said would_say(const struct model *t)
 {
 	if (!t->running) {
 		return REFUSED_UNFIT;
@@ -99,7 +100,13 @@ static enum said frame(struct model *t, bool goes)
 	if (t->waiting == BOUND) {
 		return REFUSED_FULL;
 	}
-	return goes ? push(t) : SAID_SENT;
+	return SAID_SENT;
+}
+
+static enum said frame(struct model *t)
+{
+	enum said said = would_say(t);
+	return said == SAID_SENT ? push(t) : said;
 }
 
 /* 01 REFUSAL.13 */
@@ -178,7 +185,7 @@ struct sending {
 /* 01 DATA.1 01 READ.7 01 REFUSAL.11 */
 static enum said next_frame(struct model *t, const struct sending *g, uint8_t *out)
 {
-	enum said said = frame(t, false);
+	enum said said = would_say(t);
 	if (said != SAID_SENT) {
 		return said;
 	}
@@ -202,7 +209,7 @@ static enum said next_frame(struct model *t, const struct sending *g, uint8_t *o
 static enum said model_call(struct model *t, enum call call, const struct sending *g, uint8_t *out)
 {
 	switch (call) {
-	case FRAME: return frame(t, true);
+	case FRAME: return frame(t);
 	case ACK: return ack(t);
 	case NAK: return nak(t);
 	case TIMEOUT:
@@ -329,7 +336,7 @@ static bool frames_agree(const struct request *q, uint32_t frames)
 	struct model t;
 	start(&t, q);
 	for (uint32_t i = 0; i < frames; i++) {
-		frame(&t, true);
+		frame(&t);
 	}
 	return bench_frames(q->b, q->n, q->m, q->r, frames) == t.read;
 }
@@ -339,7 +346,7 @@ static bool acks_agree(const struct request *q, uint32_t frames, uint32_t acks)
 	struct model t;
 	start(&t, q);
 	for (uint32_t i = 0; i < frames; i++) {
-		frame(&t, true);
+		frame(&t);
 	}
 	for (uint32_t i = 0; i < acks; i++) {
 		ack(&t);
@@ -352,7 +359,7 @@ static bool turns_agree(const struct request *q, uint32_t rounds)
 	struct model t;
 	start(&t, q);
 	for (uint32_t i = 0; i < rounds; i++) {
-		frame(&t, true);
+		frame(&t);
 		ack(&t);
 	}
 	return bench_turns(q->b, q->n, q->m, q->r, rounds) == t.balance;
