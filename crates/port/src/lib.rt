@@ -352,21 +352,23 @@ fn short(p: Port) -> Stepped
     answered(port_core::refused(p, Refusal::Length))
 }
 
+// Setup is lent no port; what it is given stands here for the law of the ten calls alone, and in `setup_ask` too.
 fn short_setup(count: u8) -> Stepped
     ensures { λ s. ⌜ s ≡ shortSetup count ⌝ }
 {
     short(port_core::no_port())
 }
 
+// Setup asks nothing of the records: behind place 32 there is none.
 fn setup_ask(count: u8, loss: u16) -> Against
     ensures { λ q. ⌜ q ≡ setupAsk count loss ⌝ }
 {
     let r = empty();
     let head = r.head;
-    let loss = r.loss;
+    let timer = r.loss;
     Against {
         head,
-        loss,
+        loss: timer,
         from: 32,
     }
 }

@@ -138,9 +138,8 @@ pub fn apart_step(kept: bool, r: Request, i: usize, x: Against) -> bool
     if x.head.destination != h.destination {
         return kept;
     }
-    let there = x.head.destination == h.destination;
     let alike = x.head.protocol == h.protocol;
-    let key = there & (alike & (x.head.tag == h.tag));
-    let nexus = there & (alike & (h.protocol == 1));
+    let key = alike & (x.head.tag == h.tag);
+    let nexus = alike & (h.protocol == 1);
     kept & ((r.stage == 0) | (!key & (!nexus | same_timer(x.loss, r.loss))))
 }

@@ -2,7 +2,7 @@
 -- Assumes nothing.
 use mathlib.Core.Path.{refl}
 use borrow.Author.Needs.{needs}
-use borrow.Author.Tests.{ne-eqb}
+use borrow.Author.Tests.{eq-eqb, ne-eqb}
 use Rattle.laws.proofs.Bools.{and-alone, or-right}
 use Rattle.port_parts.specs.Parts.{isFree}
 use Rattle.port_rules.proofs.apart_step.Statement.{statement}
@@ -17,7 +17,7 @@ same-timer-requires : tie.Need-same-timer-requires
 same-timer-requires c κs = search needs
 
 returns-2 : tie.Need-returns-2
-returns-2 c = rw (c .same-timer .ensures)
+returns-2 c = rw (eq-eqb _ _ (c .before .before .before .before .before .before .before .if1 .left), c .same-timer .ensures)
 
 pub apart-step-spec : {M : Type 1} → statement M
 apart-step-spec = tie.close (tie.spec returns same-timer-requires returns-2)
