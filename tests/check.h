@@ -6,8 +6,7 @@
 #include <stddef.h>
 #include <stdint.h>
 
-/* The same seed gives the same numbers on every machine. */
-/* By the first argument if there is one; says which seed it was. */
+/* The seed is the first argument if there is one, and is printed; one seed gives the same numbers on every machine. */
 void noise_begin(int argc, char **argv, uint64_t seed);
 uint64_t noise(void);
 uint64_t noise_below(uint64_t bound);

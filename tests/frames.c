@@ -603,7 +603,7 @@ static void data_write_lengths(struct test *test)
 
 /*
  * 01 DATA.2: 24 header bytes; the data, then zero fill to four bytes.
- * The header's size of a frame, which a caller lends buffers by.
+ * sonerwal.h's size of a frame, by which a caller lends buffers.
  */
 static void data_sizes(struct test *test)
 {

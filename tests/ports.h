@@ -23,7 +23,7 @@ enum word {
 	STOP_ARB,
 	RETRIED,
 	WAITING,
-	CANCEL_ACKNOWLEDGED, /* from here on, the last word on a request */
+	CANCEL_ACKNOWLEDGED, /* from here to STATUS, the last word on a request */
 	ENDED,
 	NEXUS_LOSS,
 	CONNECTION_LOST,

@@ -399,7 +399,7 @@ int main(void)
 			const char *memory = field(&at);
 			compare_state(atoi(first), memory, &at);
 		}
-		check(at == NULL, "line %lu of states has more cells than events", states);
+		check(at == NULL, "a line that begins with %s has more cells than expected", first);
 	}
 	fclose(in);
 	check(states == STATES * MEMORIES, "%lu lines of states", states);

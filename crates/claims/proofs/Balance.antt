@@ -4,7 +4,7 @@
 use Prim.Native.Nat.{ℕ, _+_, _*_, _≤_, _<_}
 use mathlib.Core.Bool.{true, false, cond}
 use mathlib.Core.List.{List, [], _∷_, _++_}
-use mathlib.Core.Path.{_≡_}
+use mathlib.Core.Path.{_≡_, refl}
 use lib.ListN.{length}
 use native.Mathlib.Omega.{arith}
 use Rattle.transfer.specs.Rules.{endOf, before, frames as framesIn}
@@ -59,6 +59,8 @@ pub record Balance : Type 0 where
   pub delivers : (r : Run) → next r .answer ≡ Answer.Done → (x : ℕ) → now r .offset ≤ x → x < endOf (now r) → Covered x (view (added r ++ past r) .acked)
   -- at most 64 frames are unanswered.
   pub few : (r : Run) → length (view (past r) .waiting) ≤ 64
+  -- and as many may be
+  pub bound : limit ≡ 64
   -- Frames and answers are never matched by a short number."
   pub counted : (r : Run) → unfinished (now r .phase) ≡ true → now r .unanswered ≡ length (view (past r) .waiting)
   pub over : (r : Run) → unfinished (now r .phase) ≡ false → now r .unanswered ≡ 0
@@ -87,6 +89,7 @@ balance = record {
   settled = λ r. all r .settled;
   delivers = λ r. all r .delivered;
   few = λ r. all r .few;
+  bound = refl;
   counted = λ r. all r .counted;
   over = λ r. all r .over;
   all-acked = λ r. all r .all-acked;

@@ -2,8 +2,8 @@
 -- determine it. Assumes nothing.
 use Prim.Native.Nat.{ℕ}
 use mathlib.Core.Bool.{true}
-use mathlib.Core.List.{List, [], _++_, append-nil}
-use mathlib.Core.Path.{_≡_, sym, ap, _∙_, subst}
+use mathlib.Core.List.{List, [], _∷_, _++_, append-nil}
+use mathlib.Core.Path.{_≡_, refl, sym, ap, _∙_, subst}
 use lib.Dec.{eqb}
 use lib.ListN.{length, take, drop, drop-of-length-le}
 use native.Mathlib.Omega.{arith}
@@ -64,6 +64,12 @@ module _ (h : DataHead) (body before : List ℕ) {x : Written} {after : List ℕ
 -- what is written is read back, and what was read is written back: OPEN but for the bytes that are not carried, DATA whole
 -- 01 OPEN.1 01 OPEN.5 01 DATA.1 01 DATA.2
 pub record Frames : Type 0 where
+  -- 01 OPEN.2 01 OPEN.3 01 OPEN.4
+  -- each field at its place: the bytes of a frame whose fields are all different
+  pub open-laid : openBytes (record { head = record { initiator = 1; protocol = 2; features = 3; rate = 9; tag = 258; destination = 1161981756646125696; source = 9332165983064197000 }; pbc = record { 0 = 19 }; awt = record { 0 = 5141 } })
+      ≡ 161 ∷ 57 ∷ 1 ∷ 2 ∷ 16 ∷ 32 ∷ 48 ∷ 64 ∷ 80 ∷ 96 ∷ 112 ∷ 128 ∷ 129 ∷ 130 ∷ 131 ∷ 132 ∷ 133 ∷ 134 ∷ 135 ∷ 136 ∷ 0 ∷ 19 ∷ 20 ∷ 21 ∷ 0 ∷ 0 ∷ 0 ∷ 0 ∷ []
+  pub data-laid : dataBytes (record { destination = 66051; source = 263430; changing = 1; tag = 1800; offset = 151653132 }) (13 ∷ 14 ∷ 15 ∷ 16 ∷ 17 ∷ [])
+      ≡ 1 ∷ 1 ∷ 2 ∷ 3 ∷ 0 ∷ 4 ∷ 5 ∷ 6 ∷ 0 ∷ 0 ∷ 1 ∷ 3 ∷ 0 ∷ 0 ∷ 0 ∷ 0 ∷ 7 ∷ 8 ∷ 255 ∷ 255 ∷ 9 ∷ 10 ∷ 11 ∷ 12 ∷ 13 ∷ 14 ∷ 15 ∷ 16 ∷ 17 ∷ 0 ∷ 0 ∷ 0 ∷ []
   pub open-written-read : (w : WriteOpen) (r : ReadOpen) → w .answer ≡ Done → Widths (w .args .0) → now (r .args .0) ≡ now (w .exit .1 .0) → r .answer ≡ Open (w .args .0)
   pub open-read-written : (r : ReadOpen) (w : WriteOpen) → Bytes (now (r .args .0)) → r .answer ≡ Open (w .args .0) → length (now (w .args .1 .0)) ≡ 28 → (w .answer ≡ Done) × (now (w .exit .1 .0) ≡ cleared notCarried (now (r .args .0)))
   pub data-written-read : (w : WriteData) (r : ReadData) → let body = now (w .args .1 .0) in w .answer ≡ Done → Typed (w .args .0) → now (r .args .0) ≡ take (frameEnd (length body)) (now (w .exit .1 .1 .0)) → (r .answer ≡ Data (record { head = w .args .0; length = length body })) × (take (length body) (drop 24 (now (r .args .0))) ≡ body)
@@ -71,6 +77,8 @@ pub record Frames : Type 0 where
 
 pub frames : Frames
 frames = record {
+  open-laid = refl;
+  data-laid = refl;
   open-written-read = λ w r e typed same. r .met ∙ ap readOpen same ∙ open-wrote (w .args .0) (now (w .args .1 .0)) (w .met) e typed;
   open-read-written = λ r w small e long. open-read (w .args .0) (now (w .args .1 .0)) (w .met) (now (r .args .0)) small (sym (r .met) ∙ e) long;
   data-written-read = λ w r e typed same.

@@ -1,4 +1,4 @@
--- The owner's demands, one file for each.
+-- The owner's demands, each in files of its own, and what these cite.
 pub mod Balance
 mod Calls
 pub mod Examples

@@ -26,7 +26,7 @@ use Rattle.xl_parts.specs.Parts.{Effect, ready, nothing, packed, stay, first, e
 use Rattle.xl_rows.specs.Table.{seen as isSeen, backoff, takes}
 use Rattle.xl_rows.proofs.Crossing.{unmoved, moved}
 use Rattle.xl.specs.Rules.{rules}
-use Rattle.xl.specs.Steps.{stepOf}
+use Rattle.xl.specs.Steps.{opened, stepOf, receiveOf}
 use Rattle.xl.specs.Status.{statusOf}
 use Rattle.xl_calls.specs.Links.{Call, event, bytes, callOf, run, surprises, brought, frames, names, some, listOf, gapless, Shows, In}
 use Rattle.xl_calls.specs.Met.{met, aipMet}
@@ -68,6 +68,8 @@ pub record Links : Type 0 where
   -- each call is the one that document 01's table defines
   pub steps : (c : Step) → c .answer ≡ callOf (event (c .args .1 .0) (c .args .1 .1 .0)) (c .args .0)
   pub receives : (c : Receive) → c .answer ≡ callOf (bytes (now (c .args .1 .0))) (c .args .0)
+  -- an OPEN received as bytes is the one that the frame reader reads
+  pub same-open : (b : List ℕ) (f : OpenFrame) (s : State) → readOpen b ≡ OpenRead.Frame f → callOf (bytes b) s ≡ callOf (event (Event.Line Primitive.Open) f) s
   -- 01 XL.39
   pub statuses : (c : Status) → c .answer ≡ statusOf (c .args .0)
   -- every call takes a state that keeps the rules to one that keeps them, over any list of calls; so from XL0
@@ -103,10 +105,11 @@ new : Good (λ f. In f []) ready
 new = record { held = tt; heard = tt; holds = impossible }
 
 pub links : Links
-unfolding callOf
+unfolding callOf receiveOf
 links = record {
   steps = λ c. c .met;
   receives = λ c. c .met;
+  same-open = λ b f s e. ap (λ (r : OpenRead). opened r s) e;
   statuses = λ c. c .met;
   keeps = λ cs s e. kept cs s e;
   from-ready = λ cs. kept cs ready ready-keeps;

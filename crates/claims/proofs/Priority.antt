@@ -1,12 +1,17 @@
 -- Priority is a strict order on (AWT, source): the two numbers are compared one after the other, and between lists of one length
 -- the first place at which they differ decides for both sides. Assumes nothing.
-use mathlib.Core.Bool.{true, false}
+use mathlib.Core.Bool.{Bool, true, false, _&&_, _||_}
 use mathlib.Core.List.{List}
 use mathlib.Core.Logic.{_⊎_, inl, inr}
-use mathlib.Core.Path.{_≡_, sym, ap, _∙_}
-use Prim.Native.Nat.{ℕ}
+use mathlib.Core.Path.{_≡_, refl, sym, ap, subst, subst⁻¹, _∙_}
+use Prim.Native.Nat.{ℕ, _<_}
+use lib.Dec.{ltb, eqb}
 use lib.ListN.{getD}
+use Rattle.laws.specs.Tests.{Says}
+use Rattle.laws.proofs.Bools.{and-false, or-alone}
 use Rattle.laws.proofs.Order.{Compared, above, below, equal}
+use Rattle.laws.proofs.Tests.{less, both, either}
+use Rattle.laws.proofs.Tests as tests
 use Rattle.open_frame.specs.Priority.{priorityOf, higherThan}
 use Rattle.open_frame.specs.declared.OpenFrame.{OpenFrame}
 use Rattle.open_frame.proofs.Priority.{never-both, trans, one-is, neither}
@@ -17,12 +22,18 @@ pub record Agree (f g : OpenFrame) : Type 0 where
   pub awt : f .awt .0 ≡ g .awt .0
   pub source : f .head .source ≡ g .head .source
 
+-- a larger AWT, or an equal one and a larger source
+abbrev Larger : OpenFrame → OpenFrame → Type 0
+Larger f g = (g .awt .0 < f .awt .0) ⊎ ((f .awt .0 ≡ g .awt .0) × (g .head .source < f .head .source))
+
 -- the two calls for two crossing OPENs
 abbrev Crossing : Higher → Higher → Type 0
 Crossing c d = (c .args .0 ≡ d .args .1 .0) × (c .args .1 .0 ≡ d .args .0)
 
 -- 01 OPEN.9
 pub record Priority : Type 0 where
+  -- in document 01's words
+  pub exactly : (c : Higher) → Says (c .answer) (Larger (c .args .0) (c .args .1 .0))
   -- of two crossing OPENs never both are of higher priority
   pub never : (c d : Higher) → Crossing c d → c .answer ≡ true → d .answer ≡ true → ⊥
   -- and exactly one is unless AWT and source agree
@@ -42,8 +53,15 @@ one-of c d e off (above h) = inl (c .met ∙ h)
 one-of c d e off (below h) = inr (swapped c d e ∙ h)
 one-of c d e off (equal h) = absurd (off (agree (c .args .0) (c .args .1 .0) h))
 
+exactly-so : (f g : OpenFrame) → Says (higherThan f g) (Larger f g)
+exactly-so f g =
+    subst (λ (t : Bool). Says (ltb (g .awt .0) (f .awt .0) || (eqb (f .awt .0) (g .awt .0) && t)) (Larger f g))
+    (or-alone (ltb (g .head .source) (f .head .source)) (and-false (eqb (f .head .source) (g .head .source)) refl))
+    (either (less (g .awt .0) (f .awt .0)) (both (tests.equal (f .awt .0) (g .awt .0)) (less (g .head .source) (f .head .source))))
+
 pub priority : Priority
 priority = record {
+  exactly = λ c. subst⁻¹ (λ (t : Bool). Says t (Larger (c .args .0) (c .args .1 .0))) (c .met) (exactly-so (c .args .0) (c .args .1 .0));
   never = λ c d e p q. never-both (c .args .0) (c .args .1 .0) (sym (c .met) ∙ p) (sym (swapped c d e) ∙ q);
   one = λ c d e off. one-of c d e off (one-is (c .args .0) (c .args .1 .0));
   neither = λ c e. c .met ∙ neither (c .args .0) (c .args .1 .0) (e .awt) (e .source);

@@ -2,7 +2,7 @@
 -- and byte as it was: its promise is the list of its tests, and each test decides its cause. Assumes nothing.
 use Prim.Native.Nat.{ℕ, _≤_}
 use mathlib.Core.Bool.{Bool, true}
-use mathlib.Core.List.{List}
+use mathlib.Core.List.{List, [], _∷_, map}
 use mathlib.Core.Logic.{_↔_}
 use mathlib.Core.Path.{_≡_, refl, sym, _∙_}
 use native.Mathlib.Omega.{arith}
@@ -116,6 +116,8 @@ refusals = record {
 pub record Numbers : Type 0 where
   pub own : (j k : Refusal) → numberOf j ≡ numberOf k → j ≡ k
   pub within : (k : Refusal) → (1 ≤ numberOf k) × (numberOf k ≤ 10)
+  -- in the order of document 01's table
+  pub table : map numberOf (Refusal.Length ∷ Refusal.Unlisted ∷ Refusal.Rules ∷ Refusal.Phy ∷ Refusal.Past ∷ Refusal.Unfit ∷ Refusal.Due ∷ Refusal.Sent ∷ Refusal.Present ∷ Refusal.Full ∷ []) ≡ 1 ∷ 2 ∷ 3 ∷ 4 ∷ 5 ∷ 6 ∷ 7 ∷ 8 ∷ 9 ∷ 10 ∷ []
 
 pub numbers : Numbers
-numbers = record { own = one-number; within = range }
+numbers = record { own = one-number; within = range; table = refl }

@@ -1,11 +1,11 @@
 -- Demand 2, text: what `readrun`'s calls write, whatever the blocks that come in and the buffers that go out, is document 01's output,
 -- since each call takes up what the last one carried over; a line says a command exactly if it is that command written; and a number
 -- is read as it is written. Assumes nothing.
-use Prim.Native.Nat.{ℕ, _≤_}
+use Prim.Native.Nat.{ℕ, _+_, _≤_, _<_}
 use mathlib.Core.Bool.{Bool, true, false, cond}
 use mathlib.Core.List.{List, [], _∷_, _++_}
 use mathlib.Core.Path.{_≡_, refl, sym, ap, _∙_}
-use borrow.Author.Tests.{le-ltb}
+use borrow.Author.Tests.{le-ltb, lt-ltb}
 use denote.Ref.{now}
 use lib.Dec.{eqb}
 use lib.ListN.{length, take, drop}
@@ -17,7 +17,7 @@ use Rattle.lines.specs.declared.Number.the-variants.{Value}
 use Rattle.lines.proofs.Numbers.{read-written, written-read}
 use Rattle.runs.specs.Commands.{readLine, written, Writable}
 use Rattle.runs.specs.Rows.{longestRow}
-use Rattle.runs.specs.Feed.{Carry, carryOf, runOf, fresh, after, said, takes, takenOf, closing, Feeds}
+use Rattle.runs.specs.Feed.{Carry, next, carryOf, runOf, fresh, after, said, takes, takenOf, closing, Feeds}
 use Rattle.runs.specs.Output.{outputOf}
 use Rattle.runs.specs.declared.Command.{Command}
 use Rattle.runs.specs.declared.Command.the-variants.{Bad}
@@ -44,6 +44,8 @@ pub record Text : Type 0 where
   pub parts : (run : Run) (s t : List ℕ) →
       (runOf (after (carryOf (runOf (after (carryOf run) s))) t) ≡ runOf (after (carryOf run) (s ++ t)))
       × (words-of run s ++ words-of (runOf (after (carryOf run) s)) t ≡ words-of run (s ++ t))
+  -- lines are numbered one by one, up to the last number of 64 bits
+  pub numbers : (n : ℕ) → n < 18446744073709551615 → next n ≡ n + 1
   pub says : (s : List ℕ) (c : Command) → (c ≡ Bad → ⊥) → readLine s ≡ c → s ≡ written c
   pub said : (c : Command) → Writable c → readLine (written c) ≡ c
   pub reads : (c : ReadNumber) (n : ℕ) → now (c .args .0) ≡ decimal n → n ≤ c .args .1 .0 → c .answer ≡ Value n
@@ -96,6 +98,7 @@ text = record {
       ∙ ap (λ (d : Carry). said fresh input ++ said d (closing (length (after fresh input .begun)))) (carried (after fresh input))
       ∙ whole input;
   parts = λ run s t. (blocks run s t, blocks-said run s t);
+  numbers = λ n h. ap (λ (t : Bool). cond t (n + 1) n) (lt-ltb n 18446744073709551615 h);
   says = λ s c fine e. said-is c fine s e;
   said = is-said;
   reads = λ c n e h. c .met ∙ ap (readNumber (c .args .1 .0)) e ∙ read-written (c .args .1 .0) n h;

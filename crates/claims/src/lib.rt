@@ -1,1 +1,1 @@
-// Every demand of the owner, gathered: proofs/ has one file for each. There is no code here.
+// Every demand of the owner, gathered: proofs/ has each in files of its own. There is no code here.

@@ -1,7 +1,7 @@
 -- Every public call over the lent list, proved once. A call has the list, p and x of any plain types:
 --     if list.len() != 32 { return REFUSE(p); }
 --     let q = ASK(p, x);  let f = SCAN(list, q);  let i = SLOT(f, x);  let r = load(list, i);  let d = CORE(p, r, f, x);  left(list, d)
--- REFUSE, ASK, SLOT and CORE are covered functions, and SCAN is a walked one (`Survey.antt`). The contract of each gives its answer by
+-- REFUSE, ASK, SLOT and CORE are covered functions, and SCAN is a walked one (`Survey.antt`; setup's is `FoldFrom.antt`'s). The contract of each gives its answer by
 -- a function: Rfs, Ask, Slot, Core, and Scan of the list and the query. Told is what the call leaves, in the caller's words.
 -- A list of another length is refused and left. Else the slice is lent as `&` to SCAN, and again to `load`, each for a lifetime of
 -- the call, and comes back, and is passed on to `left` at its own lifetime and name.

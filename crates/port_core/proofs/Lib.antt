@@ -1,2 +1,2 @@
--- What the proofs of several functions cite, and the crates above.
+-- What the proofs of several functions cite.
 mod Checks

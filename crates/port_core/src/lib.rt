@@ -106,7 +106,7 @@ fn loss_by(r: Request, t: Stamp) -> Loss
     }
 }
 
-// The answer that names request r and phy k, and the record that is stored.
+// The answer that names request r and a phy, and the record that is stored.
 fn told(port: Port, word: Word, slot: u8, phy: u8, r: Request, entry: Request, loss: Loss) -> Done
     ensures { λ d. ⌜ d ≡ told port word slot phy r entry loss ⌝ }
 {
@@ -163,7 +163,7 @@ pub fn refused(port: Port, k: Refusal) -> Done
     bare(port, Word::Refused(k), false)
 }
 
-// What a call leaves that was checked.
+// What a checked call leaves.
 fn given(c: Checked, p: Port, d: Done) -> Done
     ensures { λ r. ⌜ r ≡ calls.given c p d ⌝ }
 {

@@ -1,3 +1,3 @@
--- Which states keep the rules, and which calls may be refused with 3 after an accepted setup.
+-- Which states keep the rules, and which calls give no setup number out of range.
 pub mod Ranged
 pub mod Sound

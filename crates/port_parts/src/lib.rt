@@ -97,7 +97,7 @@ pub struct Asked {
     pub now: u64,
 }
 
-// Why an open failed: the OPEN_REJECT kinds, and two that are none.
+// Why an open failed: the OPEN_REJECT kinds, Open Time Out and Break Received.
 pub enum Reason {
     NoDestination,
     BadDestination,
@@ -114,7 +114,7 @@ pub enum Reason {
     Other,
 }
 
-// Whether setup takes these numbers.
+// Whether setup takes these numbers. The last test holds of every u16; it stands as in the row.
 pub fn in_range(count: u8, loss: u16) -> bool
     ensures { λ a. ⌜ a ≡ inRange count loss ⌝ }
 {

@@ -108,7 +108,7 @@ phyAt p k = getD (p .phys) k noPhy
 abbrev pub bare : Port → Word → Bool → Done
 bare p w cleared = record { port = p; answer = nameless w; entry = blank; loss = unchanged; cleared = cleared }
 
--- what a call leaves that was checked
+-- what a checked call leaves
 abbrev pub given : Checked → Port → Done → Done
 given Checked.Passed p d = d
 given (Checked.Refused k) p d = refusedBy p k

@@ -24,7 +24,7 @@ pub enum Word {
     Retried,
     // The phy was disabled; the request waits again.
     Waiting,
-    // From here on, the last word on a request.
+    // From here to Status, the last word on a request.
     CancelAcknowledged,
     // Open Failed with a reason that isn't retried.
     Ended(Reason),

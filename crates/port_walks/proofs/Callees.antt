@@ -1,9 +1,9 @@
 -- The covered functions that a walk calls, proved once for each number of arguments: such a function takes plain values and answers F of
--- them. A caller has what it asks for nothing, since plain values own nothing, and gets a machine value of F's.
+-- them. What it asks costs a caller nothing, since plain values own nothing; the caller gets a machine value of F's.
 --     gives1 .. gives5     its contract
 --     calls1 .. calls5     a call of it as a step of a walk: the operands are read, and the rest goes on with the answer's machine value
 --     looks, scans         the same of a function that is lent the list besides, as `&`, and answers Scan of it
--- Assumes `Given`.
+-- Assumes nothing.
 use mathlib.Core.Path.{_≡_, subst}
 use Prim.Native.Nat.{ℕ}
 use mathlib.Core.List.{List, [], _∷_}

@@ -1,11 +1,14 @@
--- Every scan of the lent list from some record on, proved once. A scan has the list and a query x, and folds the records from FROM(x) on into an accumulator, each of any plain type:
+-- Every scan of the lent list from some record on, proved once. A scan has the list and a query x, and folds the records from FROM(x)
+-- on into an accumulator, each of any plain type:
 --     let mut acc = START(x);  let mut i = FROM(x);  while i < 32 { acc = STEP(acc, list[i], i, x);  i += 1; }  acc
--- where START, FROM and STEP are covered functions: START's contract gives its answer by a function Start of x, and STEP's by a function Step of the accumulator, the record, its number and x.
---     start, step      START's and STEP's contracts.        ended, clauses      the scan's own: the answer is `foldFrom (λ a r i. Step a r i x) (Start x) list (From x) (32 - From x)`
---     function         the scan's MIR, over the two functions' symbols and the locals' types, as the function spells them
---     from-meets       the MIR meets the scan's contract, where START and STEP meet theirs
--- The slice is looked into once, before the loop, and shut after it. The loop's state: i, the accumulator's machine value, and that the accumulator is the fold of the first i records.
--- Assumes nothing.
+-- where START, FROM and STEP are covered functions: START's contract gives its answer by a function Start of x, FROM's by a function
+-- From of x, and STEP's by a function Step of the accumulator, the record, its number and x.
+--     start, step      START's and STEP's contracts
+--     ended, clauses   the scan's own: the answer is `foldFrom (λ a r i. Step a r i x) (Start x) list (From x) (32 - From x)`
+--     function         the scan's MIR, over the three functions' symbols and the locals' types, as the function spells them
+--     from-meets       the MIR meets the scan's contract, where START, FROM and STEP meet theirs
+-- The slice is looked into once, before the loop, and shut after it. The loop's state: i, the accumulator's machine value, and that
+-- the accumulator is the fold of the records from From x up to i. Assumes nothing.
 use mathlib.Core.Path.{_≡_, refl, sym, ap, subst, _∙_}
 use mathlib.Core.Bool.{Bool}
 use mathlib.Core.Logic.{⊎-elim}

@@ -2,7 +2,7 @@
 --     LentShared       what the holder keeps meanwhile: the lender's part at κ′, and its own borrow at κ, open, with both halves of its ghost variable
 --     shares-again     own (the `&κ mut [T]` ((b, o), γ, ys)) ∗ [κ]_q  ⊢ ⇛ ∃ γ₁. own (the `&κ′ [T]` ((b, o), γ₁, ys)) ∗ LentShared
 --     comes-back       given `Room`:  [†κ′] ∗ LentShared  ⊢ ⇛ (own (the `&κ mut [T]` ((b, o), γ, ys)) ∗ [κ]_q)
--- Assumes `Given`.
+-- Assumes nothing.
 use mathlib.Core.Path.{refl}
 use Prim.Native.Nat.{ℕ}
 use mathlib.Core.List.{List, [], _∷_}

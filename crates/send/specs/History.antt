@@ -40,7 +40,7 @@ abbrev pub shotsOf : ℕ → Call → Transfer → List (EntryOf Shot)
 shotsOf bound (plain c) s = entries c (unwritten s) (plainly.stepOf bound c s .answer)
 shotsOf bound (next destination source tag body out) s = entries plainly.Call.frame (written (length body) (nextBytes bound s (headOf s destination source tag) body out)) (stepOf bound (next destination source tag body out) s .answer)
 
--- the history that some calls of s add to h, the first first
+-- the history that some calls of s add to h, its latest entry first
 abbrev pub history : ℕ → List Call → Transfer → List (EntryOf Shot) → List (EntryOf Shot)
 history bound [] s h = h
 history bound (c ∷ cs) s h = history bound cs (stepOf bound c s .state) (shotsOf bound c s ++ h)

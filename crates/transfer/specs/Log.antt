@@ -13,7 +13,7 @@ nextFrame s = record { at = s .read; len = frameLength s }
 abbrev pub entriesOf : ℕ → Call → Transfer → List Entry
 entriesOf bound c s = entries c (nextFrame s) (stepOf bound c s .answer)
 
--- the history that some calls of s add to h, the first first
+-- the history that some calls of s add to h, its latest entry first
 abbrev pub history : ℕ → List Call → Transfer → List Entry → List Entry
 history bound [] s h = h
 history bound (c ∷ cs) s h = history bound cs (stepOf bound c s .state) (entriesOf bound c s ++ h)

@@ -4,7 +4,8 @@ use Prim.Native.Nat.{ℕ}
 use mathlib.Core.Bool.{true, _||_}
 use mathlib.Core.List.{[], _∷_}
 use mathlib.Core.Path.{_≡_, refl, _∙_}
-use borrow.Author.Tests.{eq-eqb}
+use borrow.Author.Tests.{eq-eqb, not-true}
+use Rattle.laws.proofs.Tests.{equal, both, unless}
 use Rattle.open_frame.proofs.Priority.{neither}
 use Rattle.open_frame.specs.Priority.{higherThan}
 use Rattle.open_frame.specs.declared.OpenFrame.{OpenFrame}
@@ -21,7 +22,7 @@ use Rattle.xl_parts.specs.declared.Seen.{Seen}
 use Rattle.xl_parts.specs.declared.Memory.{Memory}
 use Rattle.xl_parts.specs.declared.State.{State}
 use Rattle.xl_parts.specs.Parts.{nothing, holds, breaks, forgets, entered, entry, stay, first}
-use Rattle.xl_rows.specs.Table.{seen, takes}
+use Rattle.xl_rows.specs.Table.{seen, returns, takes}
 use Rattle.xl_rows.proofs.Crossing.{unmoved, moved}
 
 -- a link in the state p that remembers m, after n unexpected events
@@ -56,3 +57,9 @@ module _ (m : Memory) (n : ℕ) where
     -- 01 XL.32: one that backs off, and comes back on the path of f, goes to XL2 with BackoffReversePath and no SendOpen
     pub reverse-sends-no-open : seen (m .aip) || higherThan g f ≡ true → g .head .destination ≡ f .head .source → g .head .rate ≡ f .head .rate → takes g (Event.Line Primitive.Open) (link Phase.Xl6 (holds f m) n) ≡ record { state = entered Phase.Xl2 (link Phase.Xl6 (holds g m) n); actions = Action.Send Message.BackoffReversePath ∷ [] }
     reverse-sends-no-open moves destination rate = moved (link Phase.Xl6 (holds f m) n) f g refl moves ∙ rw (eq-eqb _ _ destination, eq-eqb _ _ rate)
+
+    -- 01 XL.32: any other that backs off goes to XL1 with BackoffRetry
+    pub other-retries : seen (m .aip) || higherThan g f ≡ true → ((g .head .destination ≡ f .head .source) × (g .head .rate ≡ f .head .rate) → ⊥) → takes g (Event.Line Primitive.Open) (link Phase.Xl6 (holds f m) n) ≡ record { state = entered Phase.Xl1 (link Phase.Xl6 (holds g m) n); actions = Action.Send Message.BackoffRetry ∷ entry Phase.Xl1 }
+    other-retries moves other =
+        moved (link Phase.Xl6 (holds f m) n) f g refl moves
+        ∙ rw (not-true (returns g f) (unless (both (equal (g .head .destination) (f .head .source)) (equal (g .head .rate) (f .head .rate))) .1 other))

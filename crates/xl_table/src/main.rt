@@ -2,8 +2,9 @@
 // cross, and of frames and bytes that are refused. tests/xl.c holds these lines against a table that was typed from document 01.
 //
 // A cell is a refusal's number, '=' (nothing changes, and nothing is done), or the new state, its memory and its actions, parted by
-// '/'; '+' before it says that one more is counted, and alone that no more came of it. A memory is six signs: the frame held and the OPEN remembered (- none, h the frame held before, e the event's,
-// o the OPEN remembered before), the latest AIP (- none), BREAK, CLOSE and Blocked On Partial.
+// '/'. '+' before it says that one more is counted, and a '+' alone that nothing but the count changed. A memory is six signs: the
+// frame held and the OPEN remembered (- none, h the frame held before, e the event's, o the OPEN remembered before), the latest AIP
+// (- none), BREAK, CLOSE and Blocked On Partial.
 use open_frame::Awt;
 use open_frame::Head;
 use open_frame::OpenFrame;

@@ -1,4 +1,4 @@
--- What its callees promise, put together. Assumes nothing.
+-- `step` gives the state and the actions, and each weight and the phase are the numbers of `tallied`. Assumes nothing.
 use borrow.Author.Needs.{needs}
 use Rattle.bench_links.proofs.turn.Statement.{statement}
 use Rattle.bench_links.proofs.turn.Tie as tie

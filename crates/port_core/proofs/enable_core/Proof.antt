@@ -1,4 +1,4 @@
--- A phy that isn't disabled is unfit; a disabled one becomes `idlePhy`, and slot 32 says that no request is named. Assumes nothing.
+-- A phy that isn't disabled is unfit; a disabled one becomes `unconnectedPhy`, and slot 32 says that no request is named. Assumes nothing.
 use mathlib.Core.Bool.{not}
 use Rattle.port_rows.specs.declared.Word.the-variants.{Taken}
 use Rattle.port_parts.specs.Parts.{isDisabled, blank}

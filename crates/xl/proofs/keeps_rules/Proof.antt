@@ -1,4 +1,4 @@
--- The tests that its callees promise decide the causes in order. Assumes nothing.
+-- Its callees promise the tests of `rules`, which are joined as there. Assumes nothing.
 use borrow.Author.Needs.{needs}
 use Rattle.xl.specs.Rules.{rules}
 use Rattle.xl.proofs.keeps_rules.Statement.{statement}

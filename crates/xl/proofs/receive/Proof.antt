@@ -1,4 +1,4 @@
--- The tests that its callees promise decide the causes in order. Assumes nothing.
+-- A frame that was read takes its step, and one that was not is refused with the reader's own number: the cases of `opened`. Assumes nothing.
 use borrow.Author.Needs.{needs}
 use Rattle.xl.specs.Steps.{receiveOf}
 use Rattle.xl.proofs.receive.Statement.{statement}

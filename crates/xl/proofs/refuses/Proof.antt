@@ -1,4 +1,4 @@
--- What its callees promise, put together. Assumes nothing.
+-- What `stays` does, nothing, is what a refusal does. Assumes nothing.
 use borrow.Author.Needs.{needs}
 use Rattle.xl.proofs.refuses.Statement.{statement}
 use Rattle.xl.proofs.refuses.Tie as tie

@@ -1,4 +1,4 @@
--- The tests that its callees promise decide the causes in order. Assumes nothing.
+-- `keeps_rules` decides the one cause, and else `in_phase` answers. Assumes nothing.
 use borrow.Author.Needs.{needs}
 use Rattle.xl.specs.Status.{statusOf}
 use Rattle.xl.proofs.status.Statement.{statement}

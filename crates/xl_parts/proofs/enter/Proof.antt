@@ -1,4 +1,4 @@
--- What its callees promise, put together. Assumes nothing.
+-- `cleared` gives the memory, and phase and count are those of `entered`. Assumes nothing.
 use borrow.Author.Needs.{needs}
 use Rattle.xl_parts.proofs.enter.Statement.{statement}
 use Rattle.xl_parts.proofs.enter.Tie as tie

@@ -1,4 +1,4 @@
--- What its callees promise, put together. Assumes nothing.
+-- `enter` gives the state and `on_entry` its actions, which are those of `to` with none before them. Assumes nothing.
 use borrow.Author.Needs.{needs}
 use Rattle.xl_parts.proofs.goes.Statement.{statement}
 use Rattle.xl_parts.proofs.goes.Tie as tie

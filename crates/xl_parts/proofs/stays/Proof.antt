@@ -1,4 +1,4 @@
--- What its callees promise, put together. Assumes nothing.
+-- The state is the one given, and `none` is the packed empty list. Assumes nothing.
 use borrow.Author.Needs.{needs}
 use Rattle.xl_parts.proofs.stays.Statement.{statement}
 use Rattle.xl_parts.proofs.stays.Tie as tie

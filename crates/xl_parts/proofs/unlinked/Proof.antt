@@ -1,4 +1,4 @@
--- What its callees promise, put together. Assumes nothing.
+-- `forgotten` gives the memory of `ready`, whose phase and count are written out. Assumes nothing.
 use borrow.Author.Needs.{needs}
 use Rattle.xl_parts.proofs.unlinked.Statement.{statement}
 use Rattle.xl_parts.proofs.unlinked.Tie as tie

@@ -1,4 +1,4 @@
--- What its callees promise, put together. Assumes nothing.
+-- The state with what the kind says of Blocked On Partial stays, and its AIP is the row's one action. Assumes nothing.
 use borrow.Author.Needs.{needs}
 use Rattle.xl_takes.proofs.arbitrates.Statement.{statement}
 use Rattle.xl_takes.proofs.arbitrates.Tie as tie

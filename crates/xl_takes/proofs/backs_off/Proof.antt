@@ -1,4 +1,4 @@
--- What its callees promise, put together. Assumes nothing.
+-- `comes_back` is the test of `backoff`, and both arms hold the OPEN received. Assumes nothing.
 use borrow.Author.Needs.{needs}
 use Rattle.xl_takes.proofs.backs_off.Statement.{statement}
 use Rattle.xl_takes.proofs.backs_off.Tie as tie

@@ -1,4 +1,4 @@
--- What its callees promise, put together. Assumes nothing.
+-- XL9 is entered, and SendBreak is put before what it does on entry. Assumes nothing.
 use borrow.Author.Needs.{needs}
 use Rattle.xl_takes.proofs.breaks_off.Statement.{statement}
 use Rattle.xl_takes.proofs.breaks_off.Tie as tie

@@ -1,4 +1,4 @@
--- What its callees promise, put together. Assumes nothing.
+-- A CLOSE remembered makes this one unexpected: the row's `unless`. Assumes nothing.
 use borrow.Author.Needs.{needs}
 use Rattle.xl_takes.proofs.close_in_7.Statement.{statement}
 use Rattle.xl_takes.proofs.close_in_7.Tie as tie

@@ -1,4 +1,4 @@
--- What its callees promise, put together. Assumes nothing.
+-- The branch is on a remembered CLOSE, as in `closing`. Assumes nothing.
 use borrow.Author.Needs.{needs}
 use Rattle.xl_takes.proofs.closes_in_7.Statement.{statement}
 use Rattle.xl_takes.proofs.closes_in_7.Tie as tie

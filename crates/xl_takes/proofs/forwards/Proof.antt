@@ -1,4 +1,4 @@
--- What its callees promise, put together. Assumes nothing.
+-- The branch is on a remembered BREAK, as in `forwarded`. Assumes nothing.
 use borrow.Author.Needs.{needs}
 use Rattle.xl_takes.proofs.forwards.Statement.{statement}
 use Rattle.xl_takes.proofs.forwards.Tie as tie

@@ -1,4 +1,4 @@
--- What its callees promise, put together. Assumes nothing.
+-- The state that holds the frame enters XL5, and OPEN is put before what it does on entry. Assumes nothing.
 use borrow.Author.Needs.{needs}
 use Rattle.xl_takes.proofs.opens.Statement.{statement}
 use Rattle.xl_takes.proofs.opens.Tie as tie

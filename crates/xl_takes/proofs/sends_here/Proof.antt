@@ -1,4 +1,4 @@
--- What its callees promise, put together. Assumes nothing.
+-- What stays, with the message put before it, is the row's one action. Assumes nothing.
 use borrow.Author.Needs.{needs}
 use Rattle.xl_takes.proofs.sends_here.Statement.{statement}
 use Rattle.xl_takes.proofs.sends_here.Tie as tie

@@ -1,4 +1,4 @@
--- What its callees promise, put together. Assumes nothing.
+-- ArbStatus(Waiting On Device), XL6's own on entry, is put before what `remembers` makes of XL6 with both forgotten. Assumes nothing.
 use borrow.Author.Needs.{needs}
 use Rattle.xl_parts.specs.declared.Action.{Action}
 use Rattle.xl_parts.specs.declared.Message.{Message}

@@ -1,4 +1,4 @@
--- What its callees promise, put together. Assumes nothing.
+-- The state with one more counted stays, and nothing is done. Assumes nothing.
 use borrow.Author.Needs.{needs}
 use Rattle.xl_takes.proofs.surprised.Statement.{statement}
 use Rattle.xl_takes.proofs.surprised.Tie as tie

@@ -1,4 +1,4 @@
--- What its callees promise, put together. Assumes nothing.
+-- The branch is on Blocked On Partial, as in `timedOut`. Assumes nothing.
 use borrow.Author.Needs.{needs}
 use Rattle.xl_takes.proofs.timed_out.Statement.{statement}
 use Rattle.xl_takes.proofs.timed_out.Tie as tie
