@@ -212,12 +212,18 @@ static uint64_t any_time(const struct world *w)
 	}
 }
 
+/* Addresses that differ in their first byte, in their last one, or in both. */
+static uint64_t destination_of(uint64_t n)
+{
+	return UINT64_C(0x5003048000000001) + n % 2 * (UINT64_C(1) << 56) + n / 2;
+}
+
 static struct key any_key(const struct mood *mood)
 {
 	return (struct key){
-		.destination = UINT64_C(0x5003048000000001) + noise_below(mood->destinations),
+		.destination = destination_of(noise_below(mood->destinations)),
 		.protocol = (uint8_t)(noise_below(3) ? 1 : noise_below(3)),
-		.tag = (uint16_t)(0xFFFF - noise_below(mood->tags)),
+		.tag = (uint16_t)(0xFFFF - noise_below(mood->tags) * 0x0101),
 	};
 }
 

@@ -12,7 +12,7 @@
 #include <stdio.h>
 #include <string.h>
 
-enum { BOUND = 64, MOST_STEPS = 150, MOST_BODY = 1032, MOST_OUT = 24 + MOST_BODY + 8, CASES = 100000 };
+enum { BOUND = 64, MOST_RESENDS = 255, MOST_STEPS = 150, MOST_BODY = 1032, MOST_OUT = 24 + MOST_BODY + 8, CASES = 100000 };
 
 /* ---- The model */
 
@@ -451,11 +451,34 @@ static void sixteen(void)
 	check(bench_acks(0, 100, 4, 0, 16, 16) == 64, "sixteen ACKs of sixteen don't move the balance point");
 }
 
+/* What the last of some rounds of FRAME and NAK says, with r resends. */
+static uint8_t naked(uint32_t r, size_t rounds)
+{
+	uint8_t calls[2 * (MOST_RESENDS + 1)], body[1] = {0}, out[1] = {0};
+	for (size_t i = 0; i < 2 * rounds; i++) {
+		calls[i] = i % 2 ? NAK : FRAME;
+	}
+	return bench_calls(0, 4, 4, r, calls, 2 * rounds, 0, 0, 0, body, 0, out, 0);
+}
+
+/* 01 READ.1 01 READ.11: each of R resends is had, and none more */
+static void resends(void)
+{
+	unsigned long had = 0, ended = 0;
+	for (uint32_t r = 0; r <= MOST_RESENDS; r++) {
+		had += r == 0 || naked(r, r) == SAID_RETRY;
+		ended += naked(r, r + 1) == SAID_FAIL;
+	}
+	check(had == MOST_RESENDS + 1, "a resend that is allowed is not had");
+	check(ended == MOST_RESENDS + 1, "a transfer goes on past its resends, or fails before");
+}
+
 int main(int argc, char **argv)
 {
 	noise_begin(argc, argv, UINT64_C(0x50C1A102));
 	any_cases();
 	show();
 	sixteen();
+	resends();
 	return check_end("steps");
 }

@@ -234,9 +234,37 @@ static void write_data(const struct data_vector *vector)
 	check(memcmp(frame, expected, sizeof frame) == 0, "DATA write, %s: bytes", vector->member);
 }
 
+/* ---- The header's own names for document 01's numbers */
+
+static const struct {
+	const char *name;
+	unsigned value, number;
+} names[] = {
+	{"SAS_OK", SAS_OK, 0},
+	{"SAS_REFUSED_LENGTH", SAS_REFUSED_LENGTH, 1},
+	{"SAS_REFUSED_UNLISTED", SAS_REFUSED_UNLISTED, 2},
+	{"SAS_OPEN_SIZE", SAS_OPEN_SIZE, 28},
+	{"SAS_PROTOCOL_SMP", SAS_PROTOCOL_SMP, 0},
+	{"SAS_PROTOCOL_SSP", SAS_PROTOCOL_SSP, 1},
+	{"SAS_PROTOCOL_STP", SAS_PROTOCOL_STP, 2},
+	{"SAS_RATE_1_5_GBPS", SAS_RATE_1_5_GBPS, 8},
+	{"SAS_RATE_3_GBPS", SAS_RATE_3_GBPS, 9},
+	{"SAS_RATE_6_GBPS", SAS_RATE_6_GBPS, 10},
+	{"SAS_FEATURES_MAX", SAS_FEATURES_MAX, 15},
+	{"SAS_DATA_HEADER_SIZE", SAS_DATA_HEADER_SIZE, 24},
+	{"SAS_DATA_BODY_MIN", SAS_DATA_BODY_MIN, 1},
+	{"SAS_DATA_BODY_MAX", SAS_DATA_BODY_MAX, 1024},
+	{"SAS_DATA_SIZE_MIN", SAS_DATA_SIZE_MIN, 28},
+	{"SAS_DATA_SIZE_MAX", SAS_DATA_SIZE_MAX, 1048},
+	{"SAS_HASHED_ADDRESS_MAX", SAS_HASHED_ADDRESS_MAX, 16777215},
+};
+
 /* 01 PROMISE.5 */
 int main(void)
 {
+	for (size_t i = 0; i < sizeof names / sizeof *names; i++) {
+		check(names[i].value == names[i].number, "%s is %u", names[i].name, names[i].value);
+	}
 	for (size_t i = 0; i < sizeof opens / sizeof *opens; i++) {
 		read_open(&opens[i]);
 		if (opens[i].direction == BOTH) {
