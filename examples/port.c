@@ -18,8 +18,8 @@ enum { SMP, SSP, STP };
 enum { PORT_LAYER_REQUEST = REASONS };
 
 static const char *const words[] = {
-	"Taken", "Submitted", "Nothing", "Send", "Open", "Close", "Stop Arb", "Retried", "Waits again", "Cancel Acknowledged", "Ended",
-	"I_T Nexus Loss", "Connection lost", "Status", "Refused",
+	"Taken", "Submitted", "Nothing", "Send", "Open", "Close", "Stop Arb", "Retried", "Waiting", "Cancel Acknowledged", "Ended",
+	"I_T Nexus Loss", "Connection Lost", "Status", "Refused",
 };
 
 static const char *const reasons[] = {
@@ -471,7 +471,10 @@ static void nexus_loss(void)
 	open_failed(3050, 0, OPEN_TIME_OUT);
 	remark("A's last SSP request had left, and the timer with it");
 	cancel(3060, SSP, 'A', 4);
+}
 
+static void timer_stops(void)
+{
 	chapter("9. What stops a loss timer, and what doesn't");
 	setup(1, 2);
 	enable(0, 0);
@@ -522,7 +525,10 @@ static void nexus_loss(void)
 	choose(18002);
 	open_failed(18003, 0, OPEN_TIME_OUT);
 	remark("neither of the two before stopped it");
+}
 
+static void timers_of_ssp(void)
+{
 	chapter("10. Loss timers are for SSP");
 	setup(1, 1);
 	enable(0, 0);
@@ -539,7 +545,10 @@ static void nexus_loss(void)
 	remark("the SMP request: A's timer neither stops for it nor ends it");
 	choose(6000);
 	open_failed(6000, 0, NO_DESTINATION);
+}
 
+static void never_lost(void)
+{
 	chapter("11. A loss time of 65,535 ms is never");
 	setup(1, NEVER);
 	enable(0, 0);
@@ -619,6 +628,9 @@ int main(void)
 	cancelled();
 	disabled();
 	nexus_loss();
+	timer_stops();
+	timers_of_ssp();
+	never_lost();
 	lent();
 	refused();
 	return EXIT_SUCCESS;

@@ -92,8 +92,6 @@ static bool means_nothing(const void *thing, const struct field *fields, const s
 	return false;
 }
 
-#define COUNT(array) (sizeof(array) / sizeof *(array))
-
 /* ---- Compare */
 
 static void differ(struct difference *d, const char *name, uint64_t expected, uint64_t found)

@@ -4,9 +4,8 @@
 
 #include <stdio.h>
 
-enum { STAGES = 7, REFUSALS = 11 };
+enum { REFUSALS = 11 };
 
-#define COUNT(array) (sizeof(array) / sizeof *(array))
 
 const char *const call_names[CALLS] = {
 	[SETUP] = "setup",
@@ -105,8 +104,7 @@ static struct {
 
 /* ---- Counts */
 
-/* The record of a key; NULL if it is absent. */
-static const struct request *record_of(const struct request *list, struct key key)
+const struct request *record_of(const struct request *list, struct key key)
 {
 	for (unsigned i = 0; i < SLOTS; i++) {
 		const struct head *h = &list[i].head;

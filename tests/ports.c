@@ -16,9 +16,8 @@
 #include <stdio.h>
 #include <string.h>
 
-enum { LEAST_CALLS = 1000000, SHOWN = 10, STAGES = 7 };
+enum { LEAST_CALLS = 1000000, SHOWN = 10 };
 
-#define COUNT(array) (sizeof(array) / sizeof *(array))
 
 /* All calls; those on lent states with a field changed; of these, on states that keep the rules; and those that differed. */
 static unsigned long calls, lent, kept, wrong;
@@ -239,21 +238,10 @@ static struct key present_key(const struct world *w, const struct mood *mood)
 	return any_key(mood);
 }
 
-static bool is_present(const struct world *w, struct key key)
-{
-	for (unsigned i = 0; i < SLOTS; i++) {
-		const struct head *h = &w->list[i].head;
-		if (w->list[i].stage != 0 && h->destination == key.destination && h->protocol == key.protocol && h->tag == key.tag) {
-			return true;
-		}
-	}
-	return false;
-}
-
 static struct head any_head(const struct world *w, const struct mood *mood)
 {
 	struct key key = any_key(mood);
-	for (int tries = 0; tries < 4 && is_present(w, key); tries++) {
+	for (int tries = 0; tries < 4 && record_of(w->list, key) != NULL; tries++) {
 		key = any_key(mood);
 	}
 	struct head head = {

@@ -9,8 +9,10 @@
 #include <stddef.h>
 #include <stdint.h>
 
-/* The list; what names no slot and no phy; the loss time that never comes. */
-enum { SLOTS = 32, PHYS = 8, NO_SLOT = 32, NO_PHY = 8, NEVER = 65535 };
+/* The list; the stages of a phy; what names no slot and no phy; the loss time that never comes. */
+enum { SLOTS = 32, PHYS = 8, STAGES = 7, NO_SLOT = 32, NO_PHY = 8, NEVER = 65535 };
+
+#define COUNT(array) (sizeof(array) / sizeof *(array))
 
 /* What a call answers. */
 enum word {

@@ -2,7 +2,7 @@
 // and the state stays within the call.
 ghost use mathlib.Core.Path.{_≡_};
 ghost use Rattle.xl_parts.specs.Parts.{phaseNumber};
-ghost use Rattle.bench_links.specs.Runs.{eventList, frameOf, weightOf, mixOf, turnOf, begun, afterAll};
+ghost use Rattle.bench_links.specs.Runs.{eventList, frameOf, weightOf, mixOf, turnOf, afterAll};
 use open_frame::Awt;
 use open_frame::Head;
 use open_frame::OpenFrame;
@@ -19,7 +19,6 @@ use xl_parts::Phase;
 use xl_parts::Primitive;
 use xl_parts::Reject;
 use xl_parts::State;
-use xl_parts::Stepped;
 use xl_parts::Wait;
 
 // A link, and a number that every step so far went into.

@@ -17,9 +17,6 @@ bit-le : (t : Bool) → bit t ≤ 1
 bit-le true = omega arith
 bit-le false = omega arith
 
-pub bit-small : {r : ℕ} (t : Bool) → r ≡ bit t → r ≤ 1
-bit-small t e = omega (arith, bit-le t)
-
 half : (s : ℕ) (t : Bool) → (s * 2 + bit t) / 2 ≡ s
 half s true = omega arith
 half s false = omega arith

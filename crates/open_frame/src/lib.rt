@@ -1,7 +1,7 @@
 // Document 01, 'OPEN address frame': the frame's fields, its reader and its writer, the wait value and priority.
 ghost use mathlib.Core.Path.{_≡_};
 ghost use mathlib.Core.Bool.{true};
-ghost use Prim.Native.Nat.{_+_, _*_, _/_, _%_, _<_};
+ghost use Prim.Native.Nat.{_+_, _/_, _%_, _<_};
 ghost use lib.ListN.{length};
 ghost use Rattle.refusals.specs.Causes.{Wrote};
 ghost use Rattle.open_frame.specs.Open.{byte0, byte1, headOf, headListed, readOpen, openBytes, writeCauses};

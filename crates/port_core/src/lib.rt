@@ -6,7 +6,7 @@ ghost use Prim.Native.Nat.{_-_};
 ghost use lib.ListN.{length};
 ghost use Rattle.refusals.specs.Causes.{refuse};
 ghost use Rattle.port_parts.specs.Parts.{blank, isOpening};
-ghost use Rattle.port_rows.specs.Answers.{noFrame, naming, nameless, later, withPhy, fresh, noPort, unconnectedPhy, stagedPhy, joinedPhy, unchanged, lossBy, told, refusedBy};
+ghost use Rattle.port_rows.specs.Answers.{noFrame, nameless, later, withPhy, fresh, noPort, unconnectedPhy, stagedPhy, unchanged, lossBy, told, refusedBy};
 ghost use Rattle.port_rows.specs.Finds.{noRoom, roomStep, keyStep};
 ghost use Rattle.port_rows.specs.Calls.{phyAt, closedPhy, placed, marked, waited, timed, submitted, submitCauses, cancelCauses, chooseCauses, phyCauses, setupOf, submitOf, cancelOf, chooseOf, openedOf, openFailedOf, frameStatusOf, closedOf, enableOf, disableOf};
 ghost use Rattle.port_rows.specs.Calls as calls;

@@ -4,3 +4,4 @@ pub mod Ways
 pub mod Earliest
 pub mod Choices
 pub mod Timers
+mod Tables

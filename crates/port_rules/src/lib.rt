@@ -1,6 +1,5 @@
 // Document 01, 'Port': the rules of a lent state, as one test of the port, one of each record, and one of each pair of records.
 ghost use mathlib.Core.Path.{_≡_};
-ghost use Rattle.laws.specs.Folds.{allBelow};
 ghost use Rattle.port_rules.specs.Rules.{phyRule, portRule, pairedAt, paired, presentRule, requestRule, apartStep, againstOf};
 ghost use Rattle.port_rules.specs.Rules as rules;
 use open_frame::Head;

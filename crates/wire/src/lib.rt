@@ -3,8 +3,8 @@
 ghost use mathlib.Core.Path.{_≡_};
 ghost use Prim.Native.Nat.{_+_, _<_, _≤_, _^_};
 ghost use lib.Dec.{leb};
-ghost use lib.ListN.{length, take};
-ghost use Rattle.wire.specs.Be.{beAt, beBytes, getBe, putBe, Got};
+ghost use lib.ListN.{take};
+ghost use Rattle.wire.specs.Be.{beAt, beBytes, putBe, Got};
 
 fn wide(x: u8) -> u64
     ensures { λ r. ⌜ (r ≡ x) × (r < 256) ⌝ }

@@ -344,6 +344,7 @@ fn arbitrates(s: State, a: Arbitration) -> Stepped
 }
 
 // The states' rows. Each arm returns: a match that has a value has a place for it, which the checker then follows through the function.
+// Each takes the frame, as `inState` does, whether or not a row of its state holds one.
 fn at_0(s: State, e: Event, f: OpenFrame) -> Stepped
     ensures { λ r. ⌜ r ≡ done (inState Phase.Xl0 f e s) ⌝ }
 {
