@@ -80,12 +80,6 @@ struct Choice {
     pick: Pick,
 }
 
-fn empty() -> Request
-    ensures { λ r. ⌜ r ≡ blank ⌝ }
-{
-    port_parts::freed()
-}
-
 // The record at a slot; no record from 32 on.
 fn load(list: &[Request], i: usize) -> Request
     requires { ⌜ length (now list) ≡ 32 ⌝ }
@@ -94,7 +88,7 @@ fn load(list: &[Request], i: usize) -> Request
     if i < 32 {
         return list[i];
     }
-    empty()
+    port_parts::freed()
 }
 
 fn apart_start(x: Against) -> bool
@@ -299,7 +293,7 @@ fn left_step(r: Request, i: usize, d: Done) -> Request
     ensures { λ q. ⌜ q ≡ leftStep r i d ⌝ }
 {
     if d.cleared {
-        return empty();
+        return port_parts::freed();
     }
     if i == d.answer.slot as usize {
         return d.entry;
@@ -363,7 +357,7 @@ fn short_setup(count: u8) -> Stepped
 fn setup_ask(count: u8, loss: u16) -> Against
     ensures { λ q. ⌜ q ≡ setupAsk count loss ⌝ }
 {
-    let r = empty();
+    let r = port_parts::freed();
     let head = r.head;
     let timer = r.loss;
     Against {

@@ -4,8 +4,8 @@ use borrow.Author.Needs.{needs}
 use Rattle.port.proofs.left_step.Statement.{statement}
 use Rattle.port.proofs.left_step.Tie as tie
 
-empty-requires : tie.Need-empty-requires
-empty-requires c κs = search needs
+freed-requires : tie.Need-freed-requires
+freed-requires c κs = search needs
 
 returns : tie.Need-returns
 returns c = search needs
@@ -24,4 +24,4 @@ returns-3 c = rw (c .spread .ensures, c .before .before .before .before .if1 .le
 
 pub left-step-spec : {M : Type 1} → statement M
 left-step-spec =
-    tie.close (tie.spec empty-requires returns cast-if2 returns-2 spread-requires returns-3)
+    tie.close (tie.spec freed-requires returns cast-if2 returns-2 spread-requires returns-3)

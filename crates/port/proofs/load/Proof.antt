@@ -1,4 +1,4 @@
--- `port::load` meets its contract: a walk of its MIR, by hand. A slot below 32: the slice is looked into, element i is copied, and the slice is shut. Another: `empty`.
+-- `port::load` meets its contract: a walk of its MIR, by hand. A slot below 32: the slice is looked into, element i is copied, and the slice is shut. Another: `freed`.
 -- Assumes nothing.
 use mathlib.Core.Path.{_≡_, refl, sym, _∙_}
 use Prim.Native.Nat.{ℕ, _<_, _≤_, _^_}
@@ -41,11 +41,11 @@ use denote.Triple.Walked.{says, needs, Stays, stay-dropped, walkOf, goes-dropped
 use denote.Exit.{yes}
 use Rattle.port_parts.specs.declared.Request.{Request}
 use Rattle.port_parts.specs.Parts.{blank}
+use Rattle.port_parts.proofs.freed as freed
+use Rattle.port_parts.proofs.freed.Symbol as freed-def
+use Rattle.port_parts.proofs.freed.Symbol.{name as #port_parts·freed}
+use Rattle.port_parts.proofs.freed.Met as freed-thm
 use Rattle.port_walks.proofs.Rec.{R, mach, vals, tells, copy, lawful, makes, place-fits, stride}
-use Rattle.port.proofs.empty as empty
-use Rattle.port.proofs.empty.Symbol as empty-def
-use Rattle.port.proofs.empty.Symbol.{name as #port·empty}
-use Rattle.port.proofs.empty.Met as empty-thm
 use Rattle.port.proofs.load.Key.{name as #port·load}
 use Rattle.port.proofs.load as load′
 use Rattle.port.proofs.load.Statement as stated
@@ -56,11 +56,11 @@ abbrev stayed : Stays (load′.ended .signature .params) (load′.ended .kept)
 stayed = (stay-dropped (shrSliceOf (0 ∷ []) tt (plain (λ _. R))) yes, (stay-dropped (plain (λ _. usize)) yes, tt))
 
 module _ {M : Type 1} (𝓤 : URA M) (H : Heap 𝓤) (A : Atoms 𝓤) (mem : Memory → SProp 𝓤) (run : Routine → Fun 𝓤) where
-  abbrev Empty : Contract 𝓤
-  Empty = tripleOf 𝓤 H A empty.signature (empty.spec 𝓤 H A mem run)
+  abbrev Freed : Contract 𝓤
+  Freed = tripleOf 𝓤 H A freed.signature (freed.spec 𝓤 H A mem run)
 
-  empty-of : (r : Request) → ent 𝓤 (ensured 𝓤 H A empty.ended (empty.clauses 𝓤 H A mem run) tt tt tt r) (fact 𝓤 (r ≡ blank))
-  empty-of r = exE 𝓤 _ (λ ws. snd∗ 𝓤 (sem 𝓤 H A (lasts empty.ended tt tt ws)) (fact 𝓤 (r ≡ blank)))
+  freed-of : (r : Request) → ent 𝓤 (ensured 𝓤 H A freed.ended (freed.clauses 𝓤 H A mem run) tt tt tt r) (fact 𝓤 (r ≡ blank))
+  freed-of r = exE 𝓤 _ (λ ws. snd∗ 𝓤 (sem 𝓤 H A (lasts freed.ended tt tt ws)) (fact 𝓤 (r ≡ blank)))
 
 module _ {M : Type 1} (𝓤 : URA M) (H : Heap 𝓤) (A : Atoms 𝓤) (W : Given 𝓤 H A) (at-mem : Memory → SProp 𝓤) (run : Routine → Fun 𝓤) (κ : Lft) (q : Share) (b o : ℕ) (γ : GName) (ys : List Request) (i : ℕ) (room : Room R (length ys)) (gi : i < 2 ^ 64) (len : length ys ≡ 32) where
   abbrev x : RefT (List Request)
@@ -84,14 +84,14 @@ module _ {M : Type 1} (𝓤 : URA M) (H : Heap 𝓤) (A : Atoms 𝓤) (W : Given
       suffices ! _ (ends-at 𝓤 H A load′.ended stayed (load′.clauses 𝓤 H A at-mem run) W (((κ, tt), (q, tt), tt, (x, (i, tt)), at), tt) w y (tt, (tt, tt)) (tt, (tt, tt))) $ says ! e $
       nothing ! $ move ! (1 ∷ 0 ∷ []) $ join ! $ frame ! $ nothing ! $ nothing ! $ fjoin ! $ nothing ! $ fjoin ! $ frame ! $ owned ! R (Is R) (makes 𝓤 H A W) y _ g $ done !
 
-  abbrev to-empty : Empty 𝓤 H A at-mem run .Ghost
-  to-empty = ((tt, tt, tt, tt, tt), tt)
+  abbrev to-freed : Freed 𝓤 H A at-mem run .Ghost
+  to-freed = ((tt, tt, tt, tt, tt), tt)
 
-  goes-empty : ent 𝓤 (emp 𝓤) (Empty 𝓤 H A at-mem run .pre to-empty)
-  goes-empty = qed W [] ∵ nothing ! $ nothing ! $ join ! $ nothing ! $ move ! (1 ∷ 0 ∷ []) $ join ! $ done !
+  goes-freed : ent 𝓤 (emp 𝓤) (Freed 𝓤 H A at-mem run .pre to-freed)
+  goes-freed = qed W [] ∵ nothing ! $ nothing ! $ join ! $ nothing ! $ move ! (1 ∷ 0 ∷ []) $ join ! $ done !
 
-  walk : (𝓣 : Tables 𝓤 H) → Triple 𝓤 (𝓣 .C #port·empty) (Empty 𝓤 H A at-mem run) → ent 𝓤 (onEntry 𝓤 H A load′.signature (κ, tt) (q, tt) (x, (i, tt)) at) (WpFn 𝓤 H (𝓣 .C) (𝓣 .Λ) code.function (s ∷ vint w64 i ∷ []) Post)
-  walk 𝓣 known-empty =
+  walk : (𝓣 : Tables 𝓤 H) → Triple 𝓤 (𝓣 .C #port_parts·freed) (Freed 𝓤 H A at-mem run) → ent 𝓤 (onEntry 𝓤 H A load′.signature (κ, tt) (q, tt) (x, (i, tt)) at) (WpFn 𝓤 H (𝓣 .C) (𝓣 .Λ) code.function (s ∷ vint w64 i ∷ []) Post)
+  walk 𝓣 known-freed =
       qed W ((‵ (flft κ q) ⊛ ‵ ftrue) ∷ ‵ (owns (ShrSlice (named 0) κ R ∷ usize ∷ []) (x, (i, tt)) at) ∷ []) ∵ enter ! (𝓣 .C) (𝓣 .Λ) code.function (s ∷ vint w64 i ∷ []) _ $
       alloc1 ! (λ l₀. alloc1 ! (λ l₁. alloc1 ! (λ l₂. alloc1 ! (λ l₃. alloc1 ! (λ l₄. alloc1 ! (λ l₅. alloc1 ! (λ l₆. alloc0 ! $ params1 ! $
       pass1 ! (init ! 10 refl (tt, (tt, (record { fits = room .0 }, tt)))) $ pass1 ! (init ! 8 refl (tt, record { fits = gi })) $ pass0 ! $
@@ -113,19 +113,19 @@ module _ {M : Type 1} (𝓤 : URA M) (H : Heap 𝓤) (A : Atoms 𝓤) (W : Given
       keep ! (0 ∷ []) $ by ! (exits (mach elem) elem refl g))))
       (λ above. let big : 32 ≤ i = nltb→le i 32 above in let out : length ys ≤ i = omega (arith, big, len) in
       skips ! $ exec ! (𝓣 .C) (𝓣 .Λ) _ mir.t-3 (atRet _ Post) $
-      use0 W (raw (Empty 𝓤 H A at-mem run .pre to-empty)) goes-empty $ calls-at ! (fmOf 𝓤 H (W .laws) 𝓣) (Empty 𝓤 H A at-mem run) known-empty to-empty (no-more !) (λ w.
-      use1 W (later (some (λ (r : Request). (‵ ftrue ⊛ ‵ (R .own r (w ∷ []))) ⊛ raw (ensured 𝓤 H A empty.ended (empty.clauses 𝓤 H A at-mem run) tt tt tt r)))) (id⊢ 𝓤 _) $ await ! tt $ pick ! (λ r.
-      split ! $ move ! (1 ∷ []) $ use1 W (raw (fact 𝓤 (r ≡ blank))) (empty-of 𝓤 H A at-mem run r) $ heard ! (r ≡ blank) (λ e. split ! $ drop ! $ facts ! R (Is R) (shows 𝓤 H A R) r (w ∷ []) (λ is.
+      use0 W (raw (Freed 𝓤 H A at-mem run .pre to-freed)) goes-freed $ calls-at ! (fmOf 𝓤 H (W .laws) 𝓣) (Freed 𝓤 H A at-mem run) known-freed to-freed (no-more !) (λ w.
+      use1 W (later (some (λ (r : Request). (‵ ftrue ⊛ ‵ (R .own r (w ∷ []))) ⊛ raw (ensured 𝓤 H A freed.ended (freed.clauses 𝓤 H A at-mem run) tt tt tt r)))) (id⊢ 𝓤 _) $ await ! tt $ pick ! (λ r.
+      split ! $ move ! (1 ∷ []) $ use1 W (raw (fact 𝓤 (r ≡ blank))) (freed-of 𝓤 H A at-mem run r) $ heard ! (r ≡ blank) (λ e. split ! $ drop ! $ facts ! R (Is R) (shows 𝓤 H A R) r (w ∷ []) (λ is.
       land ! (from ! (stop !)) (init ! 12 refl (lawful 𝓤 H A W .typed r _ is .0)) $
       returns ! (look ! 12 refl) $ forget ! 6 refl $ forget ! 8 refl $ forget ! 10 refl $ forget ! 12 refl $
       move ! (12 ∷ 13 ∷ []) $ free1 ! $ move ! (10 ∷ 11 ∷ []) $ free1 ! $ move ! (8 ∷ 9 ∷ []) $ free1 ! $ move ! (6 ∷ 7 ∷ []) $ free1 ! $ move ! (4 ∷ 5 ∷ []) $ free1 ! $ move ! (2 ∷ 3 ∷ []) $ free1 ! $ move ! (0 ∷ 1 ∷ []) $ free1 ! $ free0 ! $
       split ! $ keep ! (0 ∷ []) $ by ! (exits w r (e ∙ sym (List·getD-eq-default ys blank out)) is)))))))))))))
 
-module _ {M : Type 1} (𝓤 : URA M) (H : Heap 𝓤) (A : Atoms 𝓤) (W : Given 𝓤 H A) (mem : Memory → SProp 𝓤) (run : Routine → Fun 𝓤) (𝓣 : Tables 𝓤 H) (known-empty : Triple 𝓤 (𝓣 .C #port·empty) (Empty 𝓤 H A mem run)) where
+module _ {M : Type 1} (𝓤 : URA M) (H : Heap 𝓤) (A : Atoms 𝓤) (W : Given 𝓤 H A) (mem : Memory → SProp 𝓤) (run : Routine → Fun 𝓤) (𝓣 : Tables 𝓤 H) (known-freed : Triple 𝓤 (𝓣 .C #port_parts·freed) (Freed 𝓤 H A mem run)) where
   load-walks : Walks 𝓤 H A load′.ended stayed (WpFn 𝓤 H (𝓣 .C) (𝓣 .Λ) code.function) (load′.clauses 𝓤 H A mem run)
   load-walks = walked 𝓤 H A load′.ended stayed (load′.clauses 𝓤 H A mem run) (WpFn 𝓤 H (𝓣 .C) (𝓣 .Λ) code.function) (λ κs. (slice-vals, (uint-vals w64, tt))) (λ κs. (shr-slice-tells (named 0) (κs .0) R, (uint-tells w64, tt)))
       (λ κs qs bounds a g are. needs 𝓤 (length (a .0 .now) ≡ 32) _ (λ len.
-      walk 𝓤 H A W mem run (κs .0) (qs .0) (a .0 .ptr .0) (a .0 .ptr .1) (a .0 .name) (a .0 .now) (a .1 .0) (are .0 .0 .1) (are .1 .0 .1) len 𝓣 known-empty))
+      walk 𝓤 H A W mem run (κs .0) (qs .0) (a .0 .ptr .0) (a .0 .ptr .1) (a .0 .name) (a .0 .now) (a .1 .0) (are .0 .0 .1) (are .1 .0 .1) len 𝓣 known-freed))
 
   load-meets : Meets 𝓤 H A load′.signature (WpFn 𝓤 H (𝓣 .C) (𝓣 .Λ) code.function) (load′.spec 𝓤 H A mem run)
   load-meets = walk-meets 𝓤 H A load′.ended stayed W (goes-dropped 𝓤 H A W 1 (shrSliceOf (0 ∷ []) tt (plain (λ _. R))) yes (λ κs x f. refl), (goes-dropped 𝓤 H A W 1 (plain (λ _. usize)) yes (λ κs x f. refl), tt)) (load′.clauses 𝓤 H A mem run)
@@ -137,4 +137,4 @@ load-spec 𝓤 H 𝓜 𝓖 𝓡 =
     entered 𝓤 H (tripleOf 𝓤 H (𝓖 .A) load′.signature (load′.spec 𝓤 H (𝓖 .A) (𝓜 .mem) (𝓡 .run)))
     (tables 𝓤 H 𝓜 𝓡 code.env .C) (tables 𝓤 H 𝓜 𝓡 code.env .Λ) #port·load code.function (code.unfolded 𝓤 H 𝓜 𝓡)
     (load-meets 𝓤 H (𝓖 .A) (givenOf 𝓤 H 𝓜 𝓖) (𝓜 .mem) (𝓡 .run) (tablesOf 𝓤 H 𝓜 (tables 𝓤 H 𝓜 𝓡 code.env))
-    (cited 𝓤 H (Empty 𝓤 H (𝓖 .A) (𝓜 .mem) (𝓡 .run)) 𝓜 𝓡 code.env #port·empty empty-def.routine code.calls-port·empty (empty-thm.met 𝓤 H 𝓜 𝓖 𝓡)))
+    (cited 𝓤 H (Freed 𝓤 H (𝓖 .A) (𝓜 .mem) (𝓡 .run)) 𝓜 𝓡 code.env #port_parts·freed freed-def.routine code.calls-port-parts·freed (freed-thm.met 𝓤 H 𝓜 𝓖 𝓡)))

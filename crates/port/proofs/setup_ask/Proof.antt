@@ -1,13 +1,13 @@
--- The head and the timer of an empty record are all zeros, as in `setupAsk`. Assumes nothing.
+-- The head and the timer of a free record are all zeros, as in `setupAsk`. Assumes nothing.
 use borrow.Author.Needs.{needs}
 use Rattle.port.proofs.setup_ask.Statement.{statement}
 use Rattle.port.proofs.setup_ask.Tie as tie
 
-empty-requires : tie.Need-empty-requires
-empty-requires c κs = search needs
+freed-requires : tie.Need-freed-requires
+freed-requires c κs = search needs
 
 returns : tie.Need-returns
-returns c = rw (c .before .before .empty .ensures)
+returns c = rw (c .before .before .freed .ensures)
 
 pub setup-ask-spec : {M : Type 1} → statement M
-setup-ask-spec = tie.close (tie.spec empty-requires returns)
+setup-ask-spec = tie.close (tie.spec freed-requires returns)
