@@ -5,7 +5,7 @@ ghost use mathlib.Core.Bool.{cond, not, false};
 ghost use Prim.Native.Nat.{_-_};
 ghost use lib.ListN.{length};
 ghost use Rattle.refusals.specs.Causes.{refuse};
-ghost use Rattle.port_parts.specs.Parts.{blank, isOpening};
+ghost use Rattle.port_parts.specs.Parts.{noPhy, blank, isOpening};
 ghost use Rattle.port_rows.specs.Answers.{noFrame, nameless, later, withPhy, fresh, noPort, unconnectedPhy, stagedPhy, unchanged, lossBy, told, refusedBy};
 ghost use Rattle.port_rows.specs.Finds.{noRoom, roomStep, keyStep};
 ghost use Rattle.port_rows.specs.Calls.{phyAt, closedPhy, placed, marked, waited, timed, submitted, submitCauses, cancelCauses, chooseCauses, phyCauses, setupOf, submitOf, cancelOf, chooseOf, openedOf, openFailedOf, frameStatusOf, closedOf, enableOf, disableOf};
@@ -192,6 +192,17 @@ fn eight(phys: [Phy; 8]) -> [Phy; 8]
     phys
 }
 
+fn no_phy() -> Phy
+    ensures { λ f. ⌜ f ≡ noPhy ⌝ }
+{
+    Phy {
+        stage: 0,
+        slot: 0,
+        protocol: 0,
+        destination: 0,
+    }
+}
+
 // Phy k.
 pub fn phy_at(p: Port, k: u8) -> Phy
     ensures { λ f. ⌜ f ≡ phyAt p k ⌝ }
@@ -203,12 +214,7 @@ pub fn phy_at(p: Port, k: u8) -> Phy
         let f = phys[i];
         return f;
     }
-    Phy {
-        stage: 0,
-        slot: 0,
-        protocol: 0,
-        destination: 0,
-    }
+    no_phy()
 }
 
 // The port with f for its phy k, at a time.
@@ -220,12 +226,6 @@ fn with_phy(p: Port, k: u8, f: Phy, now: u64) -> Port
     let i = k as usize;
     if i < 8 {
         phys[i] = f;
-        return Port {
-            count: p.count,
-            loss: p.loss,
-            last: now,
-            phys,
-        };
     }
     Port {
         count: p.count,
@@ -330,12 +330,7 @@ fn fresh(count: u8, loss: u16) -> Port
 pub fn no_port() -> Port
     ensures { λ p. ⌜ p ≡ noPort ⌝ }
 {
-    let phy = Phy {
-        stage: 0,
-        slot: 0,
-        protocol: 0,
-        destination: 0,
-    };
+    let phy = no_phy();
     let phys = [phy; 8];
     Port {
         count: 0,

@@ -19,12 +19,15 @@ array-copy-out-f c = search needs
 returns : tie.Need-returns
 returns c = rw (c .before .before .eight .ensures .0)
 
+no-phy-requires : tie.Need-no-phy-requires
+no-phy-requires c κs = search needs
+
 returns-2 : tie.Need-returns-2
 returns-2 c =
-    let a = c .before .before .before .args in
-    let e = c .before .eight .ensures in
+    let a = c .before .before .before .before .args in
+    let e = c .before .before .eight .ensures in
     let n : length (a .p .phys) ≡ 8 = ap length (sym (e .0)) ∙ e .1 in
-    sym (List·getD-eq-default (a .p .phys) noPhy {n = a .k} (omega arith))
+    c .no-phy .ensures ∙ sym (List·getD-eq-default (a .p .phys) noPhy {n = a .k} (omega arith))
 
 pub phy-at-spec : {M : Type 1} → statement M
-phy-at-spec = tie.close (tie.spec eight-requires mul-f array-copy-out-f returns returns-2)
+phy-at-spec = tie.close (tie.spec eight-requires mul-f array-copy-out-f returns no-phy-requires returns-2)
