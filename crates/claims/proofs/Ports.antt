@@ -28,8 +28,7 @@ use Rattle.port_parts.proofs.Timers as timer
 use Rattle.port_rules.specs.Rules.{rules}
 use Rattle.port_rules.specs.Kept.{Kept, InRange, Free}
 use Rattle.port_rules.proofs.Facts.{rules-say}
-use Rattle.port_rows.specs.Answers.{fresh, nameless, refusedBy}
-use Rattle.port_rows.specs.Calls.{bare}
+use Rattle.port_rows.specs.Answers.{fresh, nameless, bare, refusedBy}
 use Rattle.port_rows.specs.declared.Failure.{Failure}
 use Rattle.port_rows.specs.declared.Word.the-variants.{Taken, Refused}
 use Rattle.port.specs.Calls.{leftOf, onPhy, pickAt}

@@ -133,8 +133,8 @@ use Rattle.port_parts.proofs.is_starting.Kinds as port-is-starting-of
 use Rattle.port_parts.proofs.is_starting.Reads as port-is-starting
 use Rattle.port_parts.proofs.is_stopping.Kinds as port-is-stopping-of
 use Rattle.port_parts.proofs.is_stopping.Reads as port-is-stopping
-use Rattle.port_parts.proofs.timer_after.Kinds as port-timer-after-of
-use Rattle.port_parts.proofs.timer_after.Reads as port-timer-after
+use Rattle.port_parts.proofs.timer_by.Kinds as port-timer-by-of
+use Rattle.port_parts.proofs.timer_by.Reads as port-timer-by
 use Rattle.port_parts.proofs.is_lost.Kinds as port-is-lost-of
 use Rattle.port_parts.proofs.is_lost.Reads as port-is-lost
 use Rattle.port_parts.proofs.in_range.Kinds as port-in-range-of
@@ -294,7 +294,7 @@ pub record Total : Type 2 where
   pub port-is-blocked : Anything 0 port-is-blocked-of.ps port-is-blocked.Pre
   pub port-is-starting : Anything 0 port-is-starting-of.ps port-is-starting.Pre
   pub port-is-stopping : Anything 0 port-is-stopping-of.ps port-is-stopping.Pre
-  pub port-timer-after : Anything 0 port-timer-after-of.ps port-timer-after.Pre
+  pub port-timer-by : Anything 0 port-timer-by-of.ps port-timer-by.Pre
   pub port-is-lost : Anything 0 port-is-lost-of.ps port-is-lost.Pre
   pub port-in-range : Anything 0 port-in-range-of.ps port-in-range.Pre
   pub port-has-frame-out : Anything 0 port-has-frame-out-of.ps port-has-frame-out.Pre
@@ -416,7 +416,7 @@ total = record {
   port-is-blocked = λ κs a. tt;
   port-is-starting = λ κs a. tt;
   port-is-stopping = λ κs a. tt;
-  port-timer-after = λ κs a. tt;
+  port-timer-by = λ κs a. tt;
   port-is-lost = λ κs a. tt;
   port-in-range = λ κs a. tt;
   port-has-frame-out = λ κs a. tt;

@@ -139,8 +139,8 @@ use Rattle.port_parts.proofs.is_starting.Kinds as port-is-starting-of
 use Rattle.port_parts.proofs.is_starting.Reads as port-is-starting
 use Rattle.port_parts.proofs.is_stopping.Kinds as port-is-stopping-of
 use Rattle.port_parts.proofs.is_stopping.Reads as port-is-stopping
-use Rattle.port_parts.proofs.timer_after.Kinds as port-timer-after-of
-use Rattle.port_parts.proofs.timer_after.Reads as port-timer-after
+use Rattle.port_parts.proofs.timer_by.Kinds as port-timer-by-of
+use Rattle.port_parts.proofs.timer_by.Reads as port-timer-by
 use Rattle.port_parts.proofs.is_lost.Kinds as port-is-lost-of
 use Rattle.port_parts.proofs.is_lost.Reads as port-is-lost
 use Rattle.port_parts.proofs.in_range.Kinds as port-in-range-of
@@ -358,7 +358,7 @@ pub record Unique : Type 2 where
   pub port-is-blocked : One 0 port-is-blocked-of.ps port-is-blocked-of.r (none 0 port-is-blocked-of.ps port-is-blocked-of.r) port-is-blocked.Post
   pub port-is-starting : One 0 port-is-starting-of.ps port-is-starting-of.r (none 0 port-is-starting-of.ps port-is-starting-of.r) port-is-starting.Post
   pub port-is-stopping : One 0 port-is-stopping-of.ps port-is-stopping-of.r (none 0 port-is-stopping-of.ps port-is-stopping-of.r) port-is-stopping.Post
-  pub port-timer-after : One 0 port-timer-after-of.ps port-timer-after-of.r (none 0 port-timer-after-of.ps port-timer-after-of.r) port-timer-after.Post
+  pub port-timer-by : One 0 port-timer-by-of.ps port-timer-by-of.r (none 0 port-timer-by-of.ps port-timer-by-of.r) port-timer-by.Post
   pub port-is-lost : One 0 port-is-lost-of.ps port-is-lost-of.r (none 0 port-is-lost-of.ps port-is-lost-of.r) port-is-lost.Post
   pub port-in-range : One 0 port-in-range-of.ps port-in-range-of.r (none 0 port-in-range-of.ps port-in-range-of.r) port-in-range.Post
   pub port-has-frame-out : One 0 port-has-frame-out-of.ps port-has-frame-out-of.r (none 0 port-has-frame-out-of.ps port-has-frame-out-of.r) port-has-frame-out.Post
@@ -480,7 +480,7 @@ unique = record {
   port-is-blocked = λ κs a x y s t p q. (p ∙ sym q, refl);
   port-is-starting = λ κs a x y s t p q. (p ∙ sym q, refl);
   port-is-stopping = λ κs a x y s t p q. (p ∙ sym q, refl);
-  port-timer-after = λ κs a x y s t p q. (p ∙ sym q, refl);
+  port-timer-by = λ κs a x y s t p q. (p ∙ sym q, refl);
   port-is-lost = λ κs a x y s t p q. (p ∙ sym q, refl);
   port-in-range = λ κs a x y s t p q. (p ∙ sym q, refl);
   port-has-frame-out = λ κs a x y s t p q. (p ∙ sym q, refl);

@@ -14,8 +14,7 @@ use Rattle.port_parts.specs.Parts.{off, noPhy, blank}
 use Rattle.port_parts.specs.declared.Phy.{Phy}
 use Rattle.port_parts.specs.declared.Request.{Request}
 use Rattle.port_rules.specs.Kept.{InRange, MustName, PhyKept, RequestKept, Kept}
-use Rattle.port_rows.specs.Answers.{fresh}
-use Rattle.port_rows.specs.Calls.{bare}
+use Rattle.port_rows.specs.Answers.{fresh, bare}
 use Rattle.port_rows.specs.declared.Done.{Done}
 use Rattle.port_rows.specs.declared.Word.the-variants.{Taken}
 use Rattle.port_rows.specs.Records.{spread, leftStep}

@@ -21,9 +21,8 @@ use Rattle.refusals.specs.declared.Refusal.{Refusal}
 use Rattle.refusals.proofs.Causes as causes
 use Rattle.open_frame.specs.Open.{headListed}
 use Rattle.open_frame.specs.declared.Head.{Head}
-use Rattle.port_parts.specs.Parts.{blank, isFree, isWaiting, isSsp, isOpening, isDisabled, inRange, sameKey, names, hasFrameOut}
+use Rattle.port_parts.specs.Parts.{blank, isFree, isWaiting, isOpening, isDisabled, inRange, sameKey, names, hasFrameOut}
 use Rattle.port_parts.specs.Reasons.{reasons, reasonOf, isListed, isRetried}
-use Rattle.port_parts.specs.Timer.{isLost}
 use Rattle.port_parts.specs.declared.Pick.{Pick}
 use Rattle.port_parts.specs.declared.Phy.{Phy}
 use Rattle.port_parts.specs.declared.Reason.{Reason}
@@ -31,11 +30,11 @@ use Rattle.port_parts.specs.declared.Reason.the-variants.{Other}
 use Rattle.port_parts.specs.declared.Port.{Port}
 use Rattle.port_parts.specs.declared.Request.{Request}
 use Rattle.port_rules.specs.Rules.{rules}
-use Rattle.port_rules.specs.Kept.{Kept, Free, SameKey}
+use Rattle.port_rules.specs.Kept.{FrameOut, Kept, Free, SameKey}
 use Rattle.port_rules.proofs.Facts.{range-says, rules-say}
-use Rattle.port_rows.specs.Finds.{noRoom, roomStep, roomOf, isOf, hasKey, keyOf}
-use Rattle.port_rows.specs.Calls.{phyAt, isJoined, isCancelled, closedPhy, marked, sent, opening, closing, idle, failedWord, timerAfter, bare, submitted, cancelled, chosen, connected, failed, framed, closedDone, disabledDone, submitCauses, cancelCauses, chooseCauses, phyCauses, failedCauses, setupOf, submitOf, cancelOf, chooseOf, openedOf, openFailedOf, frameStatusOf, closedOf, enableOf, disableOf}
-use Rattle.port_rows.specs.Answers.{told, withPhy, fresh, unconnectedPhy, unchanged, refusedBy}
+use Rattle.port_rows.specs.Finds.{noRoom, roomStep, roomOf, isOf, hasKey, slotOf}
+use Rattle.port_rows.specs.Calls.{phyAt, isJoined, isCancelled, closingPhy, marked, sent, opening, closing, idle, failedWord, isNexusLost, submitted, cancelled, chosen, connected, failed, framed, closedDone, disabledDone, submitCauses, cancelCauses, chooseCauses, phyCauses, failedCauses, setupOf, submitOf, cancelOf, chooseOf, openedOf, openFailedOf, frameStatusOf, closedOf, enableOf, disableOf}
+use Rattle.port_rows.specs.Answers.{told, withPhy, fresh, unconnectedPhy, unchanged, bare, refusedBy}
 use Rattle.port_rows.specs.Answers as answers
 use Rattle.port_rows.specs.declared.Done.{Done}
 use Rattle.port_rows.specs.declared.Word.{Word}
@@ -45,7 +44,7 @@ use Rattle.port_rows.specs.declared.Withdrawn.{Withdrawn}
 use Rattle.port_rows.specs.declared.Room.{Room}
 use Rattle.port.specs.History.{State, Call, doneOf, shortOf, steppedBy, isRefused, setup, submit, cancel, choose, opened, openFailed, frameStatus, closed, enable, disable}
 use Rattle.port.specs.Calls.{steppedOf, short, onPhy, pickAt}
-use Rattle.port.specs.Grounds.{Broken, Present, Full, OfKey, HasKey, Absent, Cancelled, FrameOut, Joined, phyGrounds, cancelGrounds, groundsOf}
+use Rattle.port.specs.Grounds.{Broken, Shares, Full, OfKey, HasKey, Absent, Cancelled, Joined, phyGrounds, cancelGrounds, groundsOf}
 
 -- ---- what the scans find
 
@@ -70,7 +69,7 @@ taken-says h r =
     both (unless (equal (r .stage) 0))
     (both (equal (r .head .destination) (h .destination)) (both (equal (r .head .protocol) (h .protocol)) (equal (r .head .tag) (h .tag))))
 
-pub present-says : (l : List Request) (h : Head) → Says (roomOf l h .same) (Present l h)
+pub present-says : (l : List Request) (h : Head) → Says (roomOf l h .same) (Shares l h)
 present-says l h =
     means (subst (λ (t : Bool). Says t (Some blank taken l 32)) (sym part) (some blank taken l 32)) (
       λ s. let says = taken-says h (getD l (s .i) blank) .0 (s .passes) in record { slot = s .i; below = s .below; there = says .0; same = says .1 },
@@ -90,17 +89,17 @@ pub key-says : (r : Request) (x : Key) → Says (hasKey r x) (HasKey r x)
 key-says r x = both (unless (equal (r .stage) 0)) (of-says (r .head) x)
 
 -- cancel finds the first request with the key
-pub key-found : (l : List Request) (x : Key) → Found blank (λ r. hasKey r x) l 32 32 (keyOf l x)
+pub key-found : (l : List Request) (x : Key) → Found blank (λ r. hasKey r x) l 32 32 (slotOf l x)
 key-found l x = found blank (λ r. hasKey r x) l 32 32 (omega arith)
 
-absent-says : (l : List Request) (x : Key) → Says (leb 32 (keyOf l x)) (Absent l x)
+absent-says : (l : List Request) (x : Key) → Says (leb 32 (slotOf l x)) (Absent l x)
 absent-says l x = by (key-found l x)
   where
-    by : Found blank (λ r. hasKey r x) l 32 32 (keyOf l x) → Says (leb 32 (keyOf l x)) (Absent l x)
-    by (none e off) = (λ t i k has. never (sym (off i k) ∙ key-says (getD l i blank) x .1 has), λ gone. le-leb 32 (keyOf l x) (omega arith))
+    by : Found blank (λ r. hasKey r x) l 32 32 (slotOf l x) → Says (leb 32 (slotOf l x)) (Absent l x)
+    by (none e off) = (λ t i k has. never (sym (off i k) ∙ key-says (getD l i blank) x .1 has), λ gone. le-leb 32 (slotOf l x) (omega arith))
     by (at m p off) = (
-      λ t. absurd (let over = leb-true 32 (keyOf l x) t in omega arith),
-      λ gone. absurd (gone (keyOf l x) (omega arith) (key-says (getD l (keyOf l x) blank) x .0 p)),
+      λ t. absurd (let over = leb-true 32 (slotOf l x) t in omega arith),
+      λ gone. absurd (gone (slotOf l x) (omega arith) (key-says (getD l (slotOf l x) blank) x .0 p)),
     )
 
 -- two heads with one key
@@ -119,24 +118,24 @@ one-of-key p l x kept i j m n a b = by (below-or-not i j) (below-or-not j i)
 -- so the first request with a key is cancelled exactly if one that has it is
 module _ (l : List Request) (x : Key) where
   abbrev FirstCancelled : Type 0
-  FirstCancelled = getD l (keyOf l x) blank .cancelled ≡ 1
+  FirstCancelled = getD l (slotOf l x) blank .cancelled ≡ 1
 
   cancelled-one : Absent l x ⊎ FirstCancelled → Absent l x ⊎ Cancelled l x
   cancelled-one (inl gone) = inl gone
   cancelled-one (inr already) = by (key-found l x)
     where
-      by : Found blank (λ r. hasKey r x) l 32 32 (keyOf l x) → Absent l x ⊎ Cancelled l x
+      by : Found blank (λ r. hasKey r x) l 32 32 (slotOf l x) → Absent l x ⊎ Cancelled l x
       by (none e off) = inl (λ i k has. never (sym (off i k) ∙ key-says (getD l i blank) x .1 has))
-      by (at m t off) = inr (record { slot = keyOf l x; below = m; has = key-says (getD l (keyOf l x) blank) x .0 t; already = already })
+      by (at m t off) = inr (record { slot = slotOf l x; below = m; has = key-says (getD l (slotOf l x) blank) x .0 t; already = already })
 
   cancelled-first : (p : Port) → Kept p l → Absent l x ⊎ Cancelled l x → Absent l x ⊎ FirstCancelled
   cancelled-first p kept (inl gone) = inl gone
   cancelled-first p kept (inr c) = by (key-found l x)
     where
-      by : Found blank (λ r. hasKey r x) l 32 32 (keyOf l x) → Absent l x ⊎ FirstCancelled
+      by : Found blank (λ r. hasKey r x) l 32 32 (slotOf l x) → Absent l x ⊎ FirstCancelled
       by (none e off) = absurd (never (sym (off (c .slot) (c .below)) ∙ key-says (getD l (c .slot) blank) x .1 (c .has)))
       by (at m t off) =
-          let same : keyOf l x ≡ c .slot = one-of-key p l x kept (keyOf l x) (c .slot) m (c .below) (key-says (getD l (keyOf l x) blank) x .0 t) (c .has) in
+          let same : slotOf l x ≡ c .slot = one-of-key p l x kept (slotOf l x) (c .slot) m (c .below) (key-says (getD l (slotOf l x) blank) x .0 t) (c .has) in
           inr (ap (λ (n : ℕ). getD l n blank .cancelled) same ∙ c .already)
 
 -- a number is that of a reason exactly if it is below their count
@@ -182,7 +181,7 @@ causesOf (setup count loss) s = (Refusal.Length when not (eqb (length (s .list))
 causesOf (submit x) s = (Refusal.Length when not (eqb (length (s .list)) 32)) ∷ submitCauses (s .port) (rules (s .port) (s .list)) (roomOf (s .list) (x .head)) x
 causesOf (cancel x) s =
     (Refusal.Length when not (eqb (length (s .list)) 32))
-    ∷ cancelCauses (s .port) (getD (s .list) (keyOf (s .list) (x .key)) blank) (rules (s .port) (s .list)) (keyOf (s .list) (x .key)) x
+    ∷ cancelCauses (s .port) (getD (s .list) (slotOf (s .list) (x .key)) blank) (rules (s .port) (s .list)) (slotOf (s .list) (x .key)) x
 causesOf (choose x) s = (Refusal.Length when not (eqb (length (s .list)) 32)) ∷ chooseCauses (s .port) (rules (s .port) (s .list)) (x .now)
 causesOf (opened x) s =
     (Refusal.Length when not (eqb (length (s .list)) 32)) ∷ phyCauses (s .port) (rules (s .port) (s .list)) (x .phy) (x .now) (not (isOpening (phyAt (s .port) (x .phy))))
@@ -238,7 +237,7 @@ tested (cancel x) s =
           (cons (unless (less (x .key .protocol) 3))
           (cons (broken s)
           (cons (less (x .now) (s .port .last))
-          (cons (either (absent-says (s .list) (x .key)) (equal (getD (s .list) (keyOf (s .list) (x .key)) blank .cancelled) 1)) nil))));
+          (cons (either (absent-says (s .list) (x .key)) (equal (getD (s .list) (slotOf (s .list) (x .key)) blank .cancelled) 1)) nil))));
       same = λ k. (recast s x (λ kept. cancelled-one (s .list) (x .key)), recast s x (cancelled-first (s .list) (x .key) (s .port)));
     }
 tested (choose x) s = own (cons (sized s) (cons (broken s) (cons (less (x .now) (s .port .last)) nil)))
@@ -256,7 +255,7 @@ unfoldable pub takenOf : Call → State → Done
 takenOf (setup count loss) s = bare (fresh count loss) Taken true
 takenOf (submit x) s =
     told (answers.later (s .port) (x .now)) Submitted (roomOf (s .list) (x .head) .free) 8 (submitted (roomOf (s .list) (x .head)) x) (submitted (roomOf (s .list) (x .head)) x) unchanged
-takenOf (cancel x) s = cancelled (s .port) (getD (s .list) (keyOf (s .list) (x .key)) blank) (keyOf (s .list) (x .key)) (x .now)
+takenOf (cancel x) s = cancelled (s .port) (getD (s .list) (slotOf (s .list) (x .key)) blank) (slotOf (s .list) (x .key)) (x .now)
 takenOf (choose x) s = chosen (s .port) (getD (s .list) (pickAt (s .list) (s .port) (x .now) .slot) blank) (pickAt (s .list) (s .port) (x .now)) (x .now)
 takenOf (opened x) s = connected (s .port) (phyAt (s .port) (x .phy)) (onPhy (s .list) (s .port) (x .phy)) x
 takenOf (openFailed x) s = failed (s .port) (phyAt (s .port) (x .phy)) (onPhy (s .list) (s .port) (x .phy)) (reasonOf (x .why)) (x .phy) (x .now)
@@ -343,7 +342,7 @@ unfolding cancelled
 cancelled-word p r s now = by (isWaiting r) (isOpening (phyAt p (r .phy)))
   where
     by : (t u : Bool)
-        → isRefused ((cond t (told (answers.later p now) CancelAcknowledged s 8 r blank unchanged) (told (withPhy p (r .phy) (closedPhy (phyAt p (r .phy))) now) (cond u StopArb Close) s (r .phy) r (marked r 1 (r .closed)) unchanged)) .answer .word) ≡ false
+        → isRefused ((cond t (told (answers.later p now) CancelAcknowledged s 8 r blank unchanged) (told (withPhy p (r .phy) (closingPhy (phyAt p (r .phy))) now) (cond u StopArb Close) s (r .phy) r (marked r 1 (r .closed)) unchanged)) .answer .word) ≡ false
     by true u = refl
     by false true = refl
     by false false = refl
@@ -359,7 +358,7 @@ chosen-word p r b now = by (eqb (b .step) 1) (eqb (b .step) 2) (eqb (b .step) 3)
     by false false false = refl
 
 failed-word : (p : Port) (r : Request) (why : Reason) (now : ℕ) → isRefused (failedWord p r why now) ≡ false
-failed-word p r why now = by (isCancelled r) (not (isRetried why)) (isSsp (r .head) && isLost (timerAfter r why now) (p .loss) now)
+failed-word p r why now = by (isCancelled r) (not (isRetried why)) (isNexusLost p r why now)
   where
     by : (t u v : Bool) → isRefused (cond t CancelAcknowledged (cond u (Ended why) (cond v NexusLoss Retried))) ≡ false
     by true u v = refl
@@ -371,7 +370,7 @@ pub taken-word : (c : Call) (s : State) → isRefused (takenOf c s .answer .word
 unfolding takenOf
 taken-word (setup count loss) s = refl
 taken-word (submit x) s = refl
-taken-word (cancel x) s = cancelled-word (s .port) (getD (s .list) (keyOf (s .list) (x .key)) blank) (keyOf (s .list) (x .key)) (x .now)
+taken-word (cancel x) s = cancelled-word (s .port) (getD (s .list) (slotOf (s .list) (x .key)) blank) (slotOf (s .list) (x .key)) (x .now)
 taken-word (choose x) s = chosen-word (s .port) (getD (s .list) (pickAt (s .list) (s .port) (x .now) .slot) blank) (pickAt (s .list) (s .port) (x .now)) (x .now)
 taken-word (opened x) s = choice (isCancelled (onPhy (s .list) (s .port) (x .phy))) Close Send refl refl
 taken-word (openFailed x) s = failed-word (s .port) (onPhy (s .list) (s .port) (x .phy)) (reasonOf (x .why)) (x .now)

@@ -12,7 +12,7 @@ use Rattle.port_parts.specs.Choice.{chosenStep}
 use Rattle.port_parts.specs.declared.Port.{Port}
 use Rattle.port_parts.specs.declared.Request.{Request}
 use Rattle.port_rules.specs.Rules.{portRule, requestRule, apartFrom, againstOf, rules}
-use Rattle.port_rows.specs.Finds.{roomStep, roomOf, keyStep, keyOf}
+use Rattle.port_rows.specs.Finds.{roomStep, roomOf, keyStep, slotOf}
 use Rattle.port_rows.specs.Calls.{phyAt, submitOf, cancelOf, chooseOf}
 use Rattle.port_rows.specs.declared.Done.{Done}
 use Rattle.port_rows.specs.declared.Wish.{Wish}
@@ -65,7 +65,7 @@ cancel-is l p x = λ i. cancelOf p (getD l (slot i) blank) (kept i) (slot i) x
     kept : surveyed keyJoin keyStart l (cancelAsk p x) .kept ≡ rules p l
     kept = kept-is keyJoin keyStart (λ (a : Named). a .kept) p (cancelAsk p x) refl (λ a f r i. refl) l
 
-    slot : surveyed keyJoin keyStart l (cancelAsk p x) .slot ≡ keyOf l (x .key)
+    slot : surveyed keyJoin keyStart l (cancelAsk p x) .slot ≡ slotOf l (x .key)
     slot =
         fold-part blank (λ a r i. keyJoin a (apartFrom l (againstOf r i)) r i (cancelAsk p x)) (λ a r i. keyStep a r i (x .key)) (λ (a : Named). a .slot) (λ a r i. refl) (keyStart (cancelAsk p x)) l 32
 

@@ -14,7 +14,7 @@ use Rattle.port_parts.specs.declared.Port.{Port}
 use Rattle.port_parts.specs.declared.Request.{Request}
 use Rattle.port_rules.specs.Rules.{rules}
 use Rattle.port_rows.specs.Answers.{noPort, refusedBy}
-use Rattle.port_rows.specs.Finds.{roomOf, keyOf}
+use Rattle.port_rows.specs.Finds.{roomOf, slotOf}
 use Rattle.port_rows.specs.Calls.{phyAt, setupOf, submitOf, cancelOf, chooseOf, openedOf, openFailedOf, frameStatusOf, closedOf, enableOf, disableOf}
 use Rattle.port_rows.specs.Records.{leftStep}
 use Rattle.port_rows.specs.declared.Done.{Done}
@@ -61,7 +61,7 @@ abbrev pub submitCall : List Request → Port → Wish → Done
 submitCall l p x = submitOf p (rules p l) (roomOf l (x .head)) x
 
 abbrev pub cancelCall : List Request → Port → Withdrawn → Done
-cancelCall l p x = cancelOf p (getD l (keyOf l (x .key)) blank) (rules p l) (keyOf l (x .key)) x
+cancelCall l p x = cancelOf p (getD l (slotOf l (x .key)) blank) (rules p l) (slotOf l (x .key)) x
 
 -- the pick of choose at a time
 abbrev pub pickAt : List Request → Port → ℕ → Pick

@@ -13,7 +13,7 @@ use Rattle.port_parts.specs.Parts.{blank}
 use Rattle.port_parts.specs.Reasons.{reasons}
 use Rattle.port_parts.specs.declared.Phy.{Phy}
 use Rattle.port_parts.specs.declared.Request.{Request}
-use Rattle.port_rules.specs.Kept.{InRange, Kept, Free, SameKey}
+use Rattle.port_rules.specs.Kept.{InRange, FrameOut, Kept, Free, SameKey}
 use Rattle.port_rows.specs.Calls.{phyAt}
 use Rattle.port_rows.specs.declared.Key.{Key}
 use Rattle.port_rows.specs.declared.Withdrawn.{Withdrawn}
@@ -28,7 +28,7 @@ abbrev pub Wrong : State → Type 0
 Wrong s = length (s .list) ≡ 32 → ⊥
 
 -- a request with the destination, protocol and tag of h is present
-pub record Present (l : List Request) (h : Head) : Type 0 where
+pub record Shares (l : List Request) (h : Head) : Type 0 where
   pub slot : ℕ
   pub below : slot < 32
   pub there : Free (getD l slot blank) → ⊥
@@ -55,10 +55,7 @@ pub record Cancelled (l : List Request) (x : Key) : Type 0 where
   pub has : HasKey (getD l slot blank) x
   pub already : getD l slot blank .cancelled ≡ 1
 
--- with a frame out; connected or closing
-abbrev pub FrameOut : Phy → Type 0
-FrameOut f = (f .stage ≡ 4) ⊎ (f .stage ≡ 6)
-
+-- connected or closing
 abbrev pub Joined : Phy → Type 0
 Joined f = ((f .stage ≡ 3) ⊎ (f .stage ≡ 4)) ⊎ ((f .stage ≡ 5) ⊎ (f .stage ≡ 6))
 
@@ -82,7 +79,7 @@ groundsOf (submit x) s =
     ∷ (Refusal.Unlisted if (headListed (x .head) ≡ true → ⊥))
     ∷ (Refusal.Rules if Broken s)
     ∷ (Refusal.Past if (x .now < s .port .last))
-    ∷ (Refusal.Present if Present (s .list) (x .head))
+    ∷ (Refusal.Present if Shares (s .list) (x .head))
     ∷ (Refusal.Full if Full (s .list))
     ∷ []
 groundsOf (cancel x) s = cancelGrounds s x (Absent (s .list) (x .key) ⊎ Cancelled (s .list) (x .key))

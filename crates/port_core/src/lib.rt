@@ -5,13 +5,13 @@ ghost use mathlib.Core.Bool.{cond, not, false};
 ghost use Prim.Native.Nat.{_-_};
 ghost use lib.ListN.{length};
 ghost use Rattle.refusals.specs.Causes.{refuse};
-ghost use Rattle.port_parts.specs.Parts.{noPhy, blank, isOpening};
-ghost use Rattle.port_rows.specs.Answers.{noFrame, nameless, later, withPhy, fresh, noPort, unconnectedPhy, stagedPhy, unchanged, lossBy, told, refusedBy};
+ghost use Rattle.port_parts.specs.Parts.{noPhy, blank};
+ghost use Rattle.port_rows.specs.Answers.{noFrame, nameless, later, withPhy, fresh, noPort, unconnectedPhy, stagedPhy, unchanged, lossBy, told, bare, refusedBy};
 ghost use Rattle.port_rows.specs.Finds.{noRoom, roomStep, keyStep};
-ghost use Rattle.port_rows.specs.Calls.{phyAt, closedPhy, placed, marked, waited, timed, submitted, submitCauses, cancelCauses, chooseCauses, phyCauses, setupOf, submitOf, cancelOf, chooseOf, openedOf, openFailedOf, frameStatusOf, closedOf, enableOf, disableOf};
+ghost use Rattle.port_rows.specs.Calls.{phyAt, placed, marked, waited, timed, submitted, submitCauses, cancelCauses, chooseCauses, phyCauses, setupOf, submitOf, cancelOf, chooseOf, openedOf, openFailedOf, frameStatusOf, closedOf, enableOf, disableOf};
 ghost use Rattle.port_rows.specs.Calls as calls;
 ghost use Rattle.port_rows.specs.declared.Checked.{Checked};
-ghost use Rattle.port_rows.specs.declared.Word.the-variants.{Taken, Open, Close, StopArb, Retried, CancelAcknowledged, Ended, NexusLoss};
+ghost use Rattle.port_rows.specs.declared.Word.the-variants.{Taken, Open, Retried, CancelAcknowledged, Ended, NexusLoss};
 use open_frame::Awt;
 use open_frame::Head;
 use open_frame::OpenFrame;
@@ -142,7 +142,7 @@ fn ended(port: Port, word: Word, slot: u8, phy: u8, r: Request) -> Done
 
 // An answer that names nothing; no record is stored, or all are cleared.
 fn bare(port: Port, word: Word, cleared: bool) -> Done
-    ensures { λ d. ⌜ d ≡ calls.bare port word cleared ⌝ }
+    ensures { λ d. ⌜ d ≡ bare port word cleared ⌝ }
 {
     let answer = nameless(word);
     let entry = port_parts::freed();
@@ -439,7 +439,7 @@ fn staged(stage: u8, slot: u8, f: Phy) -> Phy
 
 // A request in progress is cancelled, and its phy stops or closes.
 fn stopping(p: Port, r: Request, s: u8, now: u64) -> Done
-    ensures { λ d. ⌜ d ≡ told (withPhy p (r .phy) (closedPhy (phyAt p (r .phy))) now) (cond (isOpening (phyAt p (r .phy))) StopArb Close) s (r .phy) r (marked r 1 (r .closed)) unchanged ⌝ }
+    ensures { λ d. ⌜ d ≡ calls.stopped p r s now ⌝ }
 {
     let f = phy_at(p, r.phy);
     let stage = byte_if(f.stage == 4, 6, f.stage);
@@ -651,7 +651,7 @@ fn timer_after(r: Request, why: Reason, now: u64) -> Stamp
 {
     let stops = port_parts::is_stopping(why);
     let starts = port_parts::is_starting(why);
-    let t = port_parts::timer_after(stops, starts, r.loss, now);
+    let t = port_parts::timer_by(stops, starts, r.loss, now);
     stamp_if(r.head.protocol == 1, t, r.loss)
 }
 

@@ -15,7 +15,7 @@ use Rattle.port_parts.specs.declared.Port.{Port}
 use Rattle.port_parts.specs.declared.Request.{Request}
 use Rattle.port_rules.specs.Kept.{PhyKept, Free, Present, Kept}
 use Rattle.port_rows.specs.Answers.{stagedPhy, unchanged}
-use Rattle.port_rows.specs.Calls.{marked, phyAt, closedPhy, cancelled}
+use Rattle.port_rows.specs.Calls.{marked, phyAt, closingPhy, cancelled}
 use Rattle.port_rows.specs.declared.Done.{Done}
 use Rattle.port.specs.Calls.{leftOf}
 use Rattle.port_kept.proofs.Changes.{changed}
@@ -58,7 +58,7 @@ module _ (p : Port) (l : List Request) (size : length l ≡ 32) (eight : length 
     named : f .slot ≡ i
     named = its-name p l was i low busy
 
-    closed-kept : PhyKept (p .count) (closedPhy f) (r .phy)
+    closed-kept : PhyKept (p .count) (closingPhy f) (r .phy)
     closed-kept = by-test (λ (n : ℕ). PhyKept (p .count) (stagedPhy n (f .slot) f) (r .phy)) (isSending f) sending same
       where
         old : PhyKept (p .count) f (r .phy)
@@ -74,12 +74,12 @@ module _ (p : Port) (l : List Request) (size : length l ≡ 32) (eight : length 
 
     marks : Keeps (stoppedBy p r i now (isOpening f))
     marks =
-        changed p l size eight was (r .phy) (closedPhy f) (d .answer) (marked r 1 (r .closed)) unchanged now (record {
+        changed p l size eight was (r .phy) (closingPhy f) (d .answer) (marked r 1 (r .closed)) unchanged now (record {
           number = in-port;
           time = on;
           timer = λ c. absurd (never c);
           phy = closed-kept;
-          linked = stay f (closedPhy f) (r .phy) r (marked r 1 (r .closed)) i refl refl refl (was .requests i low .paired .phy) (was .requests i low .paired .each (r .phy) in-port);
+          linked = stay f (closingPhy f) (r .phy) r (marked r 1 (r .closed)) i refl refl refl (was .requests i low .paired .phy) (was .requests i low .paired .each (r .phy) in-port);
           entered = λ h. same-enters p l was i low there (marked r 1 (r .closed)) now refl refl (marked-present r (p .last) now on busy held);
         }) (d .port)
       where

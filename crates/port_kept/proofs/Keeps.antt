@@ -23,7 +23,7 @@ use Rattle.port_rules.specs.Rules.{rules}
 use Rattle.port_rules.specs.Kept.{Free}
 use Rattle.port_rules.proofs.Facts.{range-says}
 use Rattle.port_rows.specs.Calls.{phyAt, isCancelled, isJoined, cancelled, chosen, phyCauses}
-use Rattle.port_rows.specs.Finds.{roomOf, hasKey, keyOf}
+use Rattle.port_rows.specs.Finds.{roomOf, hasKey, slotOf}
 use Rattle.port_rows.specs.declared.Done.{Done}
 use Rattle.port_rows.specs.declared.Key.{Key}
 use Rattle.port.specs.Calls.{pickAt}
@@ -106,7 +106,7 @@ module _ (s : State) (was : Sound s) where
       })
     where
       i : ℕ
-      i = keyOf l (x .key)
+      i = slotOf l (x .key)
 
       r : Request
       r = getD l i blank

@@ -27,7 +27,7 @@ use Rattle.port_rows.specs.declared.Room.{Room}
 use Rattle.port_rows.specs.declared.Wish.{Wish}
 use Rattle.port_rows.specs.declared.Word.the-variants.{Submitted}
 use Rattle.port.specs.Calls.{leftOf}
-use Rattle.port.specs.Grounds as grounds
+use Rattle.port.specs.Grounds.{Shares}
 use Rattle.port_kept.proofs.Enters.{beside}
 use Rattle.port_kept.proofs.Holds.{present-at}
 use Rattle.port_kept.proofs.Lates.{waits-on}
@@ -112,14 +112,14 @@ module _ (p : Port) (l : List Request) (size : length l ≡ 32) (eight : length 
         loss = timer-ssp l (x .head) p was (v .loss) timer;
       }
 
-  new-apart : (grounds.Present l (x .head) → ⊥) → (j : ℕ) → j < 32 → (Free (getD l j blank) → ⊥) → Apart e (getD l j blank)
+  new-apart : (Shares l (x .head) → ⊥) → (j : ℕ) → j < 32 → (Free (getD l j blank) → ⊥) → Apart e (getD l j blank)
   new-apart absent j h there =
       record {
         keys = λ k. absent (record { slot = j; below = h; there = there; same = (sym (k .0), (sym (k .1 .0), sym (k .1 .1))) });
         timers = λ n. mates-timer l (x .head) p was (v .loss) (room-timer l (x .head)) j h (there, nexus-back (x .head) (getD l j blank .head) n);
       }
 
-  pub submit-keeps : (grounds.Present l (x .head) → ⊥) → (v .free < 32 → Free (getD l (v .free) blank)) → let d = told (later p (x .now)) Submitted (v .free) 8 e e unchanged in Kept (d .port) (leftOf l d)
+  pub submit-keeps : (Shares l (x .head) → ⊥) → (v .free < 32 → Free (getD l (v .free) blank)) → let d = told (later p (x .now)) Submitted (v .free) 8 e e unchanged in Kept (d .port) (leftOf l d)
   submit-keeps absent free =
       let d = told (later p (x .now)) Submitted (v .free) 8 e e unchanged in
       waits-on p l size eight was (d .answer) e (x .now) on (λ h busy. let f = free h in omega arith) (λ c. omega arith)

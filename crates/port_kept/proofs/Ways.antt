@@ -14,7 +14,7 @@ use Rattle.port_parts.specs.declared.Port.{Port}
 use Rattle.port_parts.specs.declared.Reason.{Reason}
 use Rattle.port_parts.specs.declared.Request.{Request}
 use Rattle.port_rows.specs.Answers.{later, withPhy, unconnectedPhy, joinedPhy, stagedPhy, unchanged, lossBy, told}
-use Rattle.port_rows.specs.Calls.{placed, marked, timed, phyAt, closedPhy, submitted, again, timerAfter, cancelled, sent, opening, closing, idle, chosen}
+use Rattle.port_rows.specs.Calls.{placed, marked, timed, phyAt, closingPhy, submitted, again, timerAfter, cancelled, sent, opening, closing, idle, chosen}
 use Rattle.port_rows.specs.Finds.{roomOf}
 use Rattle.port_rows.specs.declared.Confirmed.{Confirmed}
 use Rattle.port_rows.specs.declared.Done.{Done}
@@ -32,7 +32,7 @@ abbrev pub endedBy : Port → Request → ℕ → ℕ → Done
 endedBy p r k now = told (later p now) CancelAcknowledged k 8 r blank unchanged
 
 abbrev pub stoppedBy : Port → Request → ℕ → ℕ → Bool → Done
-stoppedBy p r k now t = told (withPhy p (r .phy) (closedPhy (phyAt p (r .phy))) now) (cond t StopArb Close) k (r .phy) r (marked r 1 (r .closed)) unchanged
+stoppedBy p r k now t = told (withPhy p (r .phy) (closingPhy (phyAt p (r .phy))) now) (cond t StopArb Close) k (r .phy) r (marked r 1 (r .closed)) unchanged
 
 -- cancelled
 abbrev pub openedBy : Port → Phy → Request → Confirmed → Bool → Done

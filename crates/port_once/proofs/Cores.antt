@@ -14,10 +14,9 @@ use Rattle.laws.proofs.Bools.{never, nor}
 use Rattle.laws.proofs.Tests.{equal, either}
 use Rattle.laws.proofs.Finds.{Found, none, at}
 use Rattle.refusals.proofs.Causes.{NoneGiven}
-use Rattle.port_parts.specs.Parts.{blank, isFree, isSsp, isOpening, isDisabled, names, hasFrameOut}
+use Rattle.port_parts.specs.Parts.{blank, isFree, isOpening, isDisabled, names, hasFrameOut}
 use Rattle.port_parts.specs.Qualifies.{Right, none, one}
 use Rattle.port_parts.specs.Reasons.{reasonOf, isRetried}
-use Rattle.port_parts.specs.Timer.{isLost}
 use Rattle.port_parts.specs.declared.Phy.{Phy}
 use Rattle.port_parts.specs.declared.Pick.{Pick}
 use Rattle.port_parts.specs.declared.Port.{Port}
@@ -26,8 +25,8 @@ use Rattle.port_parts.specs.declared.Request.{Request}
 use Rattle.port_parts.proofs.Choices.{choose-right}
 use Rattle.port_rules.specs.Rules.{rules}
 use Rattle.port_rules.specs.Kept.{Free}
-use Rattle.port_rows.specs.Calls.{placed, phyAt, isCancelled, isJoined, submitted, cancelled, sent, opening, closing, idle, chosen, connected, again, timerAfter, failed, framed, closedDone, disabledDone, submitCauses, cancelCauses, phyCauses, failedCauses}
-use Rattle.port_rows.specs.Finds.{roomOf, keyOf}
+use Rattle.port_rows.specs.Calls.{placed, phyAt, isCancelled, isJoined, submitted, cancelled, sent, opening, closing, idle, chosen, connected, again, timerAfter, isNexusLost, failed, framed, closedDone, disabledDone, submitCauses, cancelCauses, phyCauses, failedCauses}
+use Rattle.port_rows.specs.Finds.{roomOf, slotOf}
 use Rattle.port_rows.specs.declared.Confirmed.{Confirmed}
 use Rattle.port_rows.specs.declared.Done.{Done}
 use Rattle.port_rows.specs.declared.Failure.{Failure}
@@ -84,13 +83,13 @@ module _ (s : State) (ok : Lawful s) where
       stopping true = rests l (stoppedBy p r k now true) (ok .list) refl refl refl (λ _. (there, (refl, (there, (refl, refl)))))
       stopping false = rests l (stoppedBy p r k now false) (ok .list) refl refl refl (λ _. (there, (refl, (there, (refl, refl)))))
 
-  cancel-turns : (x : Withdrawn) → NoneGiven (cancelCauses p (getD l (keyOf l (x .key)) blank) (rules p l) (keyOf l (x .key)) x) → Done-turns (cancelled p (getD l (keyOf l (x .key)) blank) (keyOf l (x .key)) (x .now))
+  cancel-turns : (x : Withdrawn) → NoneGiven (cancelCauses p (getD l (slotOf l (x .key)) blank) (rules p l) (slotOf l (x .key)) x) → Done-turns (cancelled p (getD l (slotOf l (x .key)) blank) (slotOf l (x .key)) (x .now))
   cancel-turns x pass =
       let found : i < 32 = leb-false 32 i (nor (leb 32 i) (isCancelled (getD l i blank)) (pass .1 .1 .1 .0) .0) in
       cancelled-turns i (x .now) found (key-there l (x .key) i (key-found l (x .key)) found)
     where
       i : ℕ
-      i = keyOf l (x .key)
+      i = slotOf l (x .key)
 
   -- ---- choose
 
@@ -130,7 +129,7 @@ module _ (s : State) (ok : Lawful s) where
   open-failed-turns x pass =
       let low = phy-ok p l (x .phy) (x .now) (not (isOpening f)) (pass .1) .0 in
       let named = opening-names (x .phy) low (pass .1 .1 .1 .1 .0) in
-      cases (isCancelled r) (isRetried why) (isSsp (r .head) && isLost (timerAfter r why (x .now)) (p .loss) (x .now)) named (busy (x .phy) low named)
+      cases (isCancelled r) (isRetried why) (isNexusLost p r why (x .now)) named (busy (x .phy) low named)
     where
       f : Phy
       f = phyAt p (x .phy)

@@ -23,7 +23,7 @@ use Rattle.port_rules.specs.Kept.{Free, Present}
 use Rattle.port_rules.proofs.Facts.{rules-say}
 use Rattle.port_rows.specs.Answers.{later, withPhy, unchanged, told, refusedBy}
 use Rattle.port_rows.specs.Calls.{placed, phyAt, isCancelled, cancelled, disabledDone, cancelCauses, phyCauses, cancelOf, disableOf}
-use Rattle.port_rows.specs.Finds.{hasKey, keyOf}
+use Rattle.port_rows.specs.Finds.{hasKey, slotOf}
 use Rattle.port_rows.specs.declared.Confirmed.{Confirmed}
 use Rattle.port_rows.specs.declared.Done.{Done}
 use Rattle.port_rows.specs.declared.Withdrawn.{Withdrawn}
@@ -74,15 +74,15 @@ module _ (s : State) (ok : Lawful s) (slot : ℕ) (below : slot < 32) (there : F
   abbrev x : Withdrawn
   x = record { key = keyed (r .head); now = p .last }
 
-  found : keyOf l (x .key) ≡ slot
+  found : slotOf l (x .key) ≡ slot
   found = by (key-found l (x .key))
     where
       here : hasKey r (x .key) ≡ true
       here = key-says r (x .key) .1 (there, keyed-of {g = r .head} {h = r .head} refl)
 
-      by : Found blank (λ q. hasKey q (x .key)) l 32 32 (keyOf l (x .key)) → keyOf l (x .key) ≡ slot
+      by : Found blank (λ q. hasKey q (x .key)) l 32 32 (slotOf l (x .key)) → slotOf l (x .key) ≡ slot
       by (none e none-has) = absurd (never (sym (none-has slot below) ∙ here))
-      by (at m t low) = one-of-key p l (x .key) (ok .sound .kept) (keyOf l (x .key)) slot m below (key-says (getD l (keyOf l (x .key)) blank) (x .key) .0 t) (there, keyed-of {g = r .head} {h = r .head} refl)
+      by (at m t low) = one-of-key p l (x .key) (ok .sound .kept) (slotOf l (x .key)) slot m below (key-says (getD l (slotOf l (x .key)) blank) (x .key) .0 t) (there, keyed-of {g = r .head} {h = r .head} refl)
 
   abbrev cancel-done : Done
   cancel-done = told (later p (p .last)) CancelAcknowledged slot 8 r blank unchanged

@@ -14,7 +14,7 @@ use Rattle.refusals.proofs.Causes.{NoneGiven}
 use Rattle.port_parts.specs.Parts.{blank, isFree}
 use Rattle.port_parts.specs.declared.Request.{Request}
 use Rattle.port_rows.specs.Calls.{isCancelled}
-use Rattle.port_rows.specs.Finds.{roomOf, isOf, hasKey, keyOf}
+use Rattle.port_rows.specs.Finds.{roomOf, isOf, hasKey, slotOf}
 use Rattle.port_rows.specs.declared.Done.{Done}
 use Rattle.port_rows.specs.declared.Key.{Key}
 use Rattle.port_rows.specs.declared.Wish.{Wish}
@@ -61,7 +61,7 @@ cancels-given x s =
     l = s .list
 
     i : ℕ
-    i = keyOf l (x .key)
+    i = slotOf l (x .key)
 
     has : NoneGiven (behind (causesOf (cancel x) s)) → isOf (takenOf (cancel x) s .answer .frame .head) (x .key) ≡ true
     has passed =

@@ -11,10 +11,9 @@ use lib.ListN.{getD}
 use borrow.Author.Tests.{ne-eqb, ltb-false}
 use Rattle.laws.proofs.Bools.{never}
 use Rattle.refusals.proofs.Causes.{NoneGiven}
-use Rattle.port_parts.specs.Parts.{off, blank, isSsp, isOpening, names}
+use Rattle.port_parts.specs.Parts.{off, blank, isOpening, names}
 use Rattle.port_parts.specs.Qualifies.{Qualifies, sends, opens, closes, Right, none, one}
 use Rattle.port_parts.specs.Reasons.{reasonOf, isRetried}
-use Rattle.port_parts.specs.Timer.{isLost}
 use Rattle.port_parts.specs.declared.Phy.{Phy}
 use Rattle.port_parts.specs.declared.Pick.{Pick}
 use Rattle.port_parts.specs.declared.Port.{Port}
@@ -23,8 +22,8 @@ use Rattle.port_parts.specs.declared.Request.{Request}
 use Rattle.port_parts.proofs.Choices.{choose-right}
 use Rattle.port_rules.specs.Rules.{rules}
 use Rattle.port_rules.specs.Kept.{Free, Present}
-use Rattle.port_rows.specs.Calls.{phyAt, isCancelled, cancelled, sent, opening, closing, idle, chosen, connected, timerAfter, failed, framed, closedDone, disabledDone, phyCauses}
-use Rattle.port_rows.specs.Finds.{keyOf}
+use Rattle.port_rows.specs.Calls.{phyAt, isCancelled, cancelled, sent, opening, closing, idle, chosen, connected, isNexusLost, failed, framed, closedDone, disabledDone, phyCauses}
+use Rattle.port_rows.specs.Finds.{slotOf}
 use Rattle.port_rows.specs.declared.Done.{Done}
 use Rattle.port_rows.specs.declared.Confirmed.{Confirmed}
 use Rattle.port_rows.specs.declared.Failure.{Failure}
@@ -123,7 +122,7 @@ module _ (s : State) (ok : Lawful s) where
   -- ---- a phy's calls, by whether its request is cancelled
 
   open-failed-marks : (x : Failure) → Marks l false false (failed p (phyAt p (x .phy)) (onPhy l p (x .phy)) (reasonOf (x .why)) (x .phy) (x .now))
-  open-failed-marks x = cases (isCancelled r) refl (isRetried why) (isSsp (r .head) && isLost (timerAfter r why (x .now)) (p .loss) (x .now))
+  open-failed-marks x = cases (isCancelled r) refl (isRetried why) (isNexusLost p r why (x .now))
     where
       r : Request
       r = onPhy l p (x .phy)
@@ -197,7 +196,7 @@ module _ (s : State) (ok : Lawful s) where
   unfolding causesOf takenOf
   marks (setup count loss) e pass = absurd (never (sym e))
   marks (submit x) e pass = submit-marks x
-  marks (cancel x) e pass = cancelled-marks (keyOf l (x .key)) (x .now)
+  marks (cancel x) e pass = cancelled-marks (slotOf l (x .key)) (x .now)
   marks (choose x) e pass = choose-marks x
   marks (opened x) e pass = opened-marks x pass
   marks (openFailed x) e pass = open-failed-marks x

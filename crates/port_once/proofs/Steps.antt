@@ -13,8 +13,8 @@ use Rattle.refusals.proofs.Causes.{unrefused}
 use Rattle.port_parts.specs.Parts.{blank, inRange}
 use Rattle.port_parts.specs.declared.Request.{Request}
 use Rattle.port_rules.proofs.Facts.{range-says}
-use Rattle.port_rows.specs.Answers.{fresh, noPort, refusedBy}
-use Rattle.port_rows.specs.Calls.{bare, setupOf}
+use Rattle.port_rows.specs.Answers.{fresh, noPort, bare, refusedBy}
+use Rattle.port_rows.specs.Calls.{setupOf}
 use Rattle.port_rows.specs.declared.Done.{Done}
 use Rattle.port_rows.specs.declared.Word.{Word}
 use Rattle.port_rows.specs.declared.Word.the-variants.{Taken, Refused}

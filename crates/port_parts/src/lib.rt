@@ -436,7 +436,7 @@ pub fn is_stopping(why: Reason) -> bool
 }
 
 // A loss timer after a confirmation; one that runs is not started anew.
-pub fn timer_after(stops: bool, starts: bool, t: Stamp, now: u64) -> Stamp
+pub fn timer_by(stops: bool, starts: bool, t: Stamp, now: u64) -> Stamp
     ensures { λ a. ⌜ a ≡ timerBy stops starts t now ⌝ }
 {
     if stops {

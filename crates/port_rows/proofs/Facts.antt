@@ -8,11 +8,10 @@ use Rattle.refusals.specs.declared.Refusal.{Refusal}
 use Rattle.open_frame.specs.Open.{headListed}
 use Rattle.port_parts.specs.Parts.{none, isSet, isOpening, blank, isFree, isSsp, inRange}
 use Rattle.port_parts.specs.Reasons.{reasonOf, isListed, isRetried, isBlocked, isStopping}
-use Rattle.port_parts.specs.Timer.{isLost}
 use Rattle.port_parts.specs.declared.Port.{Port}
 use Rattle.port_parts.specs.declared.Reason.{Reason}
 use Rattle.port_parts.specs.declared.Request.{Request}
-use Rattle.port_rows.specs.Calls.{phyAt, timerAfter, isAgain, isCancelled, setupOf, submitOf, openedOf, openFailedOf}
+use Rattle.port_rows.specs.Calls.{phyAt, isNexusLost, isAgain, isCancelled, setupOf, submitOf, openedOf, openFailedOf}
 use Rattle.port_rows.specs.Records.{spread, leftStep}
 use Rattle.port_rows.specs.declared.Word.the-variants.{Taken, Submitted, Send, Ended, NexusLoss, Refused}
 use Rattle.port_rows.specs.declared.Loss.{Loss}
@@ -86,7 +85,7 @@ module _ (p : Port) (r : Request) (x : Failure) (listed : isListed (reasonOf (x 
   ends wanted final = rw (wanted, final, listed, own, due, opening)
 
   -- 01 PORT.25: a retried one, with a running timer at or past loss time after it, with I_T Nexus Loss
-  nexus-lost : isCancelled r ≡ false → isRetried (reasonOf (x .why)) ≡ true → isSsp (r .head) && isLost (timerAfter r (reasonOf (x .why)) (x .now)) (p .loss) (x .now) ≡ true → openFailedOf p r true x .answer .word ≡ NexusLoss
+  nexus-lost : isCancelled r ≡ false → isRetried (reasonOf (x .why)) ≡ true → isNexusLost p r (reasonOf (x .why)) (x .now) ≡ true → openFailedOf p r true x .answer .word ≡ NexusLoss
   unfolding openFailedOf
   nexus-lost wanted retried lost = rw (wanted, retried, lost, listed, own, due, opening)
 

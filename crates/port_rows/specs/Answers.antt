@@ -1,6 +1,6 @@
 -- Document 01, 'Port': what a call leaves and answers. Assumes nothing.
 use Prim.Native.Nat.{ℕ}
-use mathlib.Core.Bool.{false, not, _&&_}
+use mathlib.Core.Bool.{Bool, false, not, _&&_}
 use lib.Dec.{eqb}
 use lib.ListN.{set, replicate}
 use Rattle.refusals.specs.declared.Refusal.{Refusal}
@@ -79,6 +79,10 @@ lossBy r t = record { change = isSsp (r .head) && not (eqb (r .loss .set) (t .se
 abbrev pub told : Port → Word → ℕ → ℕ → Request → Request → Loss → Done
 told p w s k r entry loss = record { port = p; answer = record { word = w; slot = s; phy = k; frame = naming r }; entry = entry; loss = loss; cleared = false }
 
+-- an answer that names nothing; no record is stored, or all are cleared
+abbrev pub bare : Port → Word → Bool → Done
+bare p w cleared = record { port = p; answer = nameless w; entry = blank; loss = unchanged; cleared = cleared }
+
 -- a refusal gives only its number, and leaves all as it was
 abbrev pub refusedBy : Port → Refusal → Done
-refusedBy p k = record { port = p; answer = nameless (Refused k); entry = blank; loss = unchanged; cleared = false }
+refusedBy p k = bare p (Refused k) false

@@ -20,7 +20,7 @@ use Rattle.port_parts.specs.declared.Port.{Port}
 use Rattle.port_parts.specs.declared.Reason.{Reason}
 use Rattle.port_parts.specs.declared.Request.{Request}
 use Rattle.port_parts.specs.declared.Stamp.{Stamp}
-use Rattle.port_rows.specs.Answers.{nameless, later, withPhy, fresh, noPort, unconnectedPhy, openingPhy, joinedPhy, stagedPhy, unchanged, lossBy, told, refusedBy}
+use Rattle.port_rows.specs.Answers.{later, withPhy, fresh, noPort, unconnectedPhy, openingPhy, joinedPhy, stagedPhy, unchanged, lossBy, told, bare, refusedBy}
 use Rattle.port_rows.specs.declared.Word.{Word}
 use Rattle.port_rows.specs.declared.Word.the-variants.{Taken, Submitted, Nothing, Send, Open, Close, StopArb, Retried, Waiting, CancelAcknowledged, Ended, NexusLoss, ConnectionLost, Status}
 use Rattle.port_rows.specs.declared.Room.{Room}
@@ -104,10 +104,6 @@ isCancelled r = eqb (r .cancelled) 1
 abbrev pub phyAt : Port → ℕ → Phy
 phyAt p k = getD (p .phys) k noPhy
 
--- an answer that names nothing; no record is stored, or all are cleared
-abbrev pub bare : Port → Word → Bool → Done
-bare p w cleared = record { port = p; answer = nameless w; entry = blank; loss = unchanged; cleared = cleared }
-
 -- what a checked call leaves
 abbrev pub given : Checked → Port → Done → Done
 given Checked.Passed p d = d
@@ -166,14 +162,19 @@ cancelCauses p r kept s x =
     ∷ []
 
 -- a connected phy whose request is cancelled closes, with its frame out
-abbrev pub closedPhy : Phy → Phy
-closedPhy f = stagedPhy (cond (isSending f) 6 (f .stage)) (f .slot) f
+abbrev pub closingPhy : Phy → Phy
+closingPhy f = stagedPhy (cond (isSending f) 6 (f .stage)) (f .slot) f
+
+-- 01 PORT.23
+-- a request in progress is cancelled, and its phy stops or closes
+abbrev pub stopped : Port → Request → ℕ → ℕ → Done
+stopped p r s now = told (withPhy p (r .phy) (closingPhy (phyAt p (r .phy))) now) (cond (isOpening (phyAt p (r .phy))) StopArb Close) s (r .phy) r (marked r 1 (r .closed)) unchanged
 
 -- 01 PORT.23: Cancel of a waiting request ends it (Cancel Acknowledged); in progress: Stop Arb while opening, Close while connected; Opened after that gives Close; any end, retry, closing or disabling then is Cancel Acknowledged.
 unfoldable pub cancelled : Port → Request → ℕ → ℕ → Done
 cancelled p r s now =
     cond (isWaiting r) (told (later p now) CancelAcknowledged s 8 r blank unchanged)
-    (told (withPhy p (r .phy) (closedPhy (phyAt p (r .phy))) now) (cond (isOpening (phyAt p (r .phy))) StopArb Close) s (r .phy) r (marked r 1 (r .closed)) unchanged)
+    (stopped p r s now)
 
 unfoldable pub cancelOf : Port → Request → Bool → ℕ → Withdrawn → Done
 cancelOf p r kept s x = refuse (refusedBy p) (cancelCauses p r kept s x) (cancelled p r s (x .now))
@@ -253,15 +254,19 @@ again r why now t =
 abbrev pub timerAfter : Request → Reason → ℕ → Stamp
 timerAfter r why now = cond (isSsp (r .head)) (timerBy (isStopping why) (isStarting why) (r .loss) now) (r .loss)
 
+-- 01 PORT.25
+abbrev pub isNexusLost : Port → Request → Reason → ℕ → Bool
+isNexusLost p r why now = isSsp (r .head) && isLost (timerAfter r why now) (p .loss) now
+
 -- 01 PORT.18 01 PORT.25
 -- Cancel Acknowledged comes before a reason that ends, and that before I_T Nexus Loss
 abbrev pub failedWord : Port → Request → Reason → ℕ → Word
 failedWord p r why now =
     cond (isCancelled r) CancelAcknowledged
-    (cond (not (isRetried why)) (Ended why) (cond (isSsp (r .head) && isLost (timerAfter r why now) (p .loss) now) NexusLoss Retried))
+    (cond (not (isRetried why)) (Ended why) (cond (isNexusLost p r why now) NexusLoss Retried))
 
 abbrev pub isAgain : Port → Request → Reason → ℕ → Bool
-isAgain p r why now = not (isCancelled r) && (isRetried why && not (isSsp (r .head) && isLost (timerAfter r why now) (p .loss) now))
+isAgain p r why now = not (isCancelled r) && (isRetried why && not (isNexusLost p r why now))
 
 -- 01 PORT.18
 abbrev pub failed : Port → Phy → Request → Reason → ℕ → ℕ → Done

@@ -36,5 +36,5 @@ hasKey r x = not (isFree r) && isOf (r .head) x
 abbrev pub keyStep : ℕ → Request → ℕ → Key → ℕ
 keyStep a r i x = cond (eqb a 32 && hasKey r x) (min i 32) a
 
-abbrev pub keyOf : List Request → Key → ℕ
-keyOf l x = foldTo blank (λ a r i. keyStep a r i x) 32 l 32
+abbrev pub slotOf : List Request → Key → ℕ
+slotOf l x = foldTo blank (λ a r i. keyStep a r i x) 32 l 32

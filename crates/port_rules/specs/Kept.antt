@@ -20,9 +20,12 @@ pub record InRange (count loss : ℕ) : Type 0 where
   pub lossLeast : 1 ≤ loss
   pub lossMost : loss ≤ 65535
 
+abbrev pub FrameOut : Phy → Type 0
+FrameOut p = (p .stage ≡ 4) ⊎ (p .stage ≡ 6)
+
 -- opening, or with a frame out
 abbrev pub MustName : Phy → Type 0
-MustName p = (p .stage ≡ 2) ⊎ ((p .stage ≡ 4) ⊎ (p .stage ≡ 6))
+MustName p = (p .stage ≡ 2) ⊎ FrameOut p
 
 -- 01 PORT.7
 pub record PhyKept (count : ℕ) (p : Phy) (k : ℕ) : Type 0 where

@@ -9,14 +9,14 @@ is-stopping-requires c κs = search needs
 is-starting-requires : tie.Need-is-starting-requires
 is-starting-requires c κs = search needs
 
-timer-after-requires : tie.Need-timer-after-requires
-timer-after-requires c κs = search needs
+timer-by-requires : tie.Need-timer-by-requires
+timer-by-requires c κs = search needs
 
 stamp-if-requires : tie.Need-stamp-if-requires
 stamp-if-requires c κs = search needs
 
 returns : tie.Need-returns
-returns c = rw (c .stamp-if .ensures, c .before .before .timer-after .ensures, c .before .before .before .is-starting .ensures, c .before .before .before .before .is-stopping .ensures)
+returns c = rw (c .stamp-if .ensures, c .before .before .timer-by .ensures, c .before .before .before .is-starting .ensures, c .before .before .before .before .is-stopping .ensures)
 
 pub timer-after-spec : {M : Type 1} → statement M
 timer-after-spec =
@@ -24,6 +24,6 @@ timer-after-spec =
     (tie.spec
     is-stopping-requires
     is-starting-requires
-    timer-after-requires
+    timer-by-requires
     stamp-if-requires
     returns)

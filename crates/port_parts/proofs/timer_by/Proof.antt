@@ -1,7 +1,7 @@
 -- A stop comes before a start, and a running timer isn't started anew: each return is a case of `timerBy`. Assumes nothing.
 use borrow.Author.Needs.{needs}
-use Rattle.port_parts.proofs.timer_after.Statement.{statement}
-use Rattle.port_parts.proofs.timer_after.Tie as tie
+use Rattle.port_parts.proofs.timer_by.Statement.{statement}
+use Rattle.port_parts.proofs.timer_by.Tie as tie
 
 no-stamp-requires : tie.Need-no-stamp-requires
 no-stamp-requires c κs = search needs
@@ -18,6 +18,6 @@ returns-2 c = rw (c .stamped .ensures, c .before .before .before .if1 .left, c .
 returns-3 : tie.Need-returns-3
 returns-3 c = rw (c .before .before .if1 .left, c .if2 .left)
 
-pub timer-after-spec : {M : Type 1} → statement M
-timer-after-spec =
+pub timer-by-spec : {M : Type 1} → statement M
+timer-by-spec =
     tie.close (tie.spec no-stamp-requires returns stamped-requires returns-2 returns-3)
