@@ -103,22 +103,8 @@ use Rattle.port_parts.proofs.freed.Kinds as port-freed-of
 use Rattle.port_parts.proofs.freed.Reads as port-freed
 use Rattle.port_parts.proofs.slot.Kinds as port-slot-of
 use Rattle.port_parts.proofs.slot.Reads as port-slot
-use Rattle.port_parts.proofs.reached.Kinds as port-reached-of
-use Rattle.port_parts.proofs.reached.Reads as port-reached
-use Rattle.port_parts.proofs.reaches.Kinds as port-reaches-of
-use Rattle.port_parts.proofs.reaches.Reads as port-reaches
-use Rattle.port_parts.proofs.free_sets.Kinds as port-free-sets-of
-use Rattle.port_parts.proofs.free_sets.Reads as port-free-sets
-use Rattle.port_parts.proofs.way_for.Kinds as port-way-for-of
-use Rattle.port_parts.proofs.way_for.Reads as port-way-for
-use Rattle.port_parts.proofs.is_ready.Kinds as port-is-ready-of
-use Rattle.port_parts.proofs.is_ready.Reads as port-is-ready
 use Rattle.port_parts.proofs.no_pick.Kinds as port-no-pick-of
 use Rattle.port_parts.proofs.no_pick.Reads as port-no-pick
-use Rattle.port_parts.proofs.picked.Kinds as port-picked-of
-use Rattle.port_parts.proofs.picked.Reads as port-picked
-use Rattle.port_parts.proofs.earlier.Kinds as port-earlier-of
-use Rattle.port_parts.proofs.earlier.Reads as port-earlier
 use Rattle.port_parts.proofs.chosen_step.Kinds as port-chosen-step-of
 use Rattle.port_parts.proofs.chosen_step.Reads as port-chosen-step
 use Rattle.port_parts.proofs.reason_of.Kinds as port-reason-of-of
@@ -279,14 +265,7 @@ pub record Total : Type 2 where
   pub port-disabled : Anything 0 port-disabled-of.ps port-disabled.Pre
   pub port-freed : Anything 0 port-freed-of.ps port-freed.Pre
   pub port-slot : Anything 0 port-slot-of.ps port-slot.Pre
-  pub port-reached : Anything 0 port-reached-of.ps port-reached.Pre
-  pub port-reaches : Anything 0 port-reaches-of.ps port-reaches.Pre
-  pub port-free-sets : Anything 0 port-free-sets-of.ps port-free-sets.Pre
-  pub port-way-for : Anything 0 port-way-for-of.ps port-way-for.Pre
-  pub port-is-ready : Anything 0 port-is-ready-of.ps port-is-ready.Pre
   pub port-no-pick : Anything 0 port-no-pick-of.ps port-no-pick.Pre
-  pub port-picked : Anything 0 port-picked-of.ps port-picked.Pre
-  pub port-earlier : Anything 0 port-earlier-of.ps port-earlier.Pre
   pub port-chosen-step : Anything 0 port-chosen-step-of.ps port-chosen-step.Pre
   pub port-reason-of : Anything 0 port-reason-of-of.ps port-reason-of.Pre
   pub port-is-listed : Anything 0 port-is-listed-of.ps port-is-listed.Pre
@@ -401,14 +380,7 @@ total = record {
   port-disabled = λ κs a. tt;
   port-freed = λ κs a. tt;
   port-slot = λ κs a. tt;
-  port-reached = λ κs a. tt;
-  port-reaches = λ κs a. tt;
-  port-free-sets = λ κs a. tt;
-  port-way-for = λ κs a. tt;
-  port-is-ready = λ κs a. tt;
   port-no-pick = λ κs a. tt;
-  port-picked = λ κs a. tt;
-  port-earlier = λ κs a. tt;
   port-chosen-step = λ κs a. tt;
   port-reason-of = λ κs a. tt;
   port-is-listed = λ κs a. tt;

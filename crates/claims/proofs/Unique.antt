@@ -109,22 +109,8 @@ use Rattle.port_parts.proofs.freed.Kinds as port-freed-of
 use Rattle.port_parts.proofs.freed.Reads as port-freed
 use Rattle.port_parts.proofs.slot.Kinds as port-slot-of
 use Rattle.port_parts.proofs.slot.Reads as port-slot
-use Rattle.port_parts.proofs.reached.Kinds as port-reached-of
-use Rattle.port_parts.proofs.reached.Reads as port-reached
-use Rattle.port_parts.proofs.reaches.Kinds as port-reaches-of
-use Rattle.port_parts.proofs.reaches.Reads as port-reaches
-use Rattle.port_parts.proofs.free_sets.Kinds as port-free-sets-of
-use Rattle.port_parts.proofs.free_sets.Reads as port-free-sets
-use Rattle.port_parts.proofs.way_for.Kinds as port-way-for-of
-use Rattle.port_parts.proofs.way_for.Reads as port-way-for
-use Rattle.port_parts.proofs.is_ready.Kinds as port-is-ready-of
-use Rattle.port_parts.proofs.is_ready.Reads as port-is-ready
 use Rattle.port_parts.proofs.no_pick.Kinds as port-no-pick-of
 use Rattle.port_parts.proofs.no_pick.Reads as port-no-pick
-use Rattle.port_parts.proofs.picked.Kinds as port-picked-of
-use Rattle.port_parts.proofs.picked.Reads as port-picked
-use Rattle.port_parts.proofs.earlier.Kinds as port-earlier-of
-use Rattle.port_parts.proofs.earlier.Reads as port-earlier
 use Rattle.port_parts.proofs.chosen_step.Kinds as port-chosen-step-of
 use Rattle.port_parts.proofs.chosen_step.Reads as port-chosen-step
 use Rattle.port_parts.proofs.reason_of.Kinds as port-reason-of-of
@@ -343,14 +329,7 @@ pub record Unique : Type 2 where
   pub port-disabled : One 0 port-disabled-of.ps port-disabled-of.r (none 0 port-disabled-of.ps port-disabled-of.r) port-disabled.Post
   pub port-freed : One 0 port-freed-of.ps port-freed-of.r (none 0 port-freed-of.ps port-freed-of.r) port-freed.Post
   pub port-slot : One 0 port-slot-of.ps port-slot-of.r (none 0 port-slot-of.ps port-slot-of.r) port-slot.Post
-  pub port-reached : One 0 port-reached-of.ps port-reached-of.r (none 0 port-reached-of.ps port-reached-of.r) port-reached.Post
-  pub port-reaches : One 0 port-reaches-of.ps port-reaches-of.r (none 0 port-reaches-of.ps port-reaches-of.r) port-reaches.Post
-  pub port-free-sets : One 0 port-free-sets-of.ps port-free-sets-of.r (none 0 port-free-sets-of.ps port-free-sets-of.r) port-free-sets.Post
-  pub port-way-for : One 0 port-way-for-of.ps port-way-for-of.r (none 0 port-way-for-of.ps port-way-for-of.r) port-way-for.Post
-  pub port-is-ready : One 0 port-is-ready-of.ps port-is-ready-of.r (none 0 port-is-ready-of.ps port-is-ready-of.r) port-is-ready.Post
   pub port-no-pick : One 0 port-no-pick-of.ps port-no-pick-of.r (none 0 port-no-pick-of.ps port-no-pick-of.r) port-no-pick.Post
-  pub port-picked : One 0 port-picked-of.ps port-picked-of.r (none 0 port-picked-of.ps port-picked-of.r) port-picked.Post
-  pub port-earlier : One 0 port-earlier-of.ps port-earlier-of.r (none 0 port-earlier-of.ps port-earlier-of.r) port-earlier.Post
   pub port-chosen-step : One 0 port-chosen-step-of.ps port-chosen-step-of.r (none 0 port-chosen-step-of.ps port-chosen-step-of.r) port-chosen-step.Post
   pub port-reason-of : One 0 port-reason-of-of.ps port-reason-of-of.r (none 0 port-reason-of-of.ps port-reason-of-of.r) port-reason-of.Post
   pub port-is-listed : One 0 port-is-listed-of.ps port-is-listed-of.r (none 0 port-is-listed-of.ps port-is-listed-of.r) port-is-listed.Post
@@ -465,14 +444,7 @@ unique = record {
   port-disabled = λ κs a x y s t p q. (p ∙ sym q, refl);
   port-freed = λ κs a x y s t p q. (p ∙ sym q, refl);
   port-slot = λ κs a x y s t p q. (p ∙ sym q, refl);
-  port-reached = λ κs a x y s t p q. (p ∙ sym q, refl);
-  port-reaches = λ κs a x y s t p q. (p ∙ sym q, refl);
-  port-free-sets = λ κs a x y s t p q. (p ∙ sym q, refl);
-  port-way-for = λ κs a x y s t p q. (p ∙ sym q, refl);
-  port-is-ready = λ κs a x y s t p q. (p ∙ sym q, refl);
   port-no-pick = λ κs a x y s t p q. (p ∙ sym q, refl);
-  port-picked = λ κs a x y s t p q. (p ∙ sym q, refl);
-  port-earlier = λ κs a x y s t p q. (p ∙ sym q, refl);
   port-chosen-step = λ κs a x y s t p q. (p ∙ sym q, refl);
   port-reason-of = λ κs a x y s t p q. (p ∙ sym q, refl);
   port-is-listed = λ κs a x y s t p q. (p ∙ sym q, refl);

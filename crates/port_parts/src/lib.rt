@@ -187,7 +187,7 @@ pub fn slot(i: usize) -> u8
 }
 
 // Whether `now` is at or past `wait` microseconds after `at`.
-pub fn reached(at: u64, wait: u64, now: u64) -> bool
+fn reached(at: u64, wait: u64, now: u64) -> bool
     ensures { λ r. ⌜ r ≡ leb (at + wait) now ⌝ }
 {
     if now < at {
@@ -197,7 +197,7 @@ pub fn reached(at: u64, wait: u64, now: u64) -> bool
 }
 
 // Whether the phy is connected to the destination and protocol of h.
-pub fn reaches(p: Phy, h: Head) -> bool
+fn reaches(p: Phy, h: Head) -> bool
     ensures { λ a. ⌜ a ≡ choice.reaches p h ⌝ }
 {
     (p.destination == h.destination) & (p.protocol == h.protocol)
@@ -224,7 +224,7 @@ fn joined(s: Sets, p: Phy, h: Head) -> Sets
 }
 
 // One pass over the phys, from the last to the first.
-pub fn free_sets(phys: [Phy; 8], h: Head) -> Sets
+fn free_sets(phys: [Phy; 8], h: Head) -> Sets
     ensures { λ r. ⌜ r ≡ setsOf phys h ⌝ }
 {
     let mut s = Sets {
@@ -243,7 +243,7 @@ pub fn free_sets(phys: [Phy; 8], h: Head) -> Sets
 
 // 01 FORM.2: Free phys as a bit set; trailing zeros pick the lowest, a count of ones tells how many.
 // The first rule that has a phy, and the lowest phy that it has.
-pub fn way_for(phys: [Phy; 8], r: Request) -> Way
+fn way_for(phys: [Phy; 8], r: Request) -> Way
     ensures { λ a. ⌜ a ≡ wayOf phys r ⌝ }
 {
     let free = free_sets(phys, r.head);
@@ -268,7 +268,7 @@ pub fn way_for(phys: [Phy; 8], r: Request) -> Way
     Way { step: 0, phy: 0 }
 }
 
-pub fn is_ready(r: Request, now: u64) -> bool
+fn is_ready(r: Request, now: u64) -> bool
     ensures { λ a. ⌜ a ≡ isReady r now ⌝ }
 {
     (r.stage == 1) & (!(r.retry.set == 1) | reached(r.retry.at, 15, now))
@@ -286,7 +286,7 @@ pub fn no_pick() -> Pick
 }
 
 // What can be done for the request at place i.
-pub fn picked(x: Asked, r: Request, i: usize) -> Pick
+fn picked(x: Asked, r: Request, i: usize) -> Pick
     ensures { λ a. ⌜ a ≡ pickOf x r i ⌝ }
 {
     if is_ready(r, x.now) {
@@ -303,7 +303,7 @@ pub fn picked(x: Asked, r: Request, i: usize) -> Pick
 }
 
 // The earlier of two, a where they are even.
-pub fn earlier(a: Pick, b: Pick) -> Pick
+fn earlier(a: Pick, b: Pick) -> Pick
     ensures { λ r. ⌜ r ≡ earlierOf a b ⌝ }
 {
     if !(b.step == 0) & ((a.step == 0) | (b.at < a.at)) {
