@@ -23,7 +23,7 @@ use Rattle.port_parts.specs.declared.Port.{Port}
 use Rattle.port_parts.specs.declared.Reason.{Reason}
 use Rattle.port_parts.specs.declared.Request.{Request}
 use Rattle.port_parts.specs.declared.Stamp.{Stamp}
-use Rattle.port_parts.proofs.Choices.{choose-right, nothing-exactly}
+use Rattle.port_parts.proofs.Choices.{choose-right, right-once, nothing-exactly}
 use Rattle.port_parts.proofs.Timers as timer
 use Rattle.port_rules.specs.Rules.{rules}
 use Rattle.port_rules.specs.Kept.{Kept, InRange, Free}
@@ -75,6 +75,8 @@ pub record Ports : Type 2 where
   pub call-disable : Means call-disable.ended (λ M. call-disable.spec) (λ κs a r e. Does (disable (a .1 .1 .0)) (lent (a .1 .0) (now (a .0))) r (now (e .0)))
   -- 01 PORT.12 01 PORT.13 01 PORT.14
   pub chooses : (x : Asked) (l : List Request) → length (x .phys) ≡ 8 → Right (x .phys) (x .now) l (chosenOf x l 32)
+  -- and there is one right choice only
+  pub one-choice : (ps : List Phy) (now : ℕ) (l : List Request) (p q : Pick) → Right ps now l p → Right ps now l q → p ≡ q
   -- 01 PORT.15
   pub nothing : (ps : List Phy) (now : ℕ) (l : List Request) (p : Pick) → Right ps now l p → (p .step ≡ 0) ↔ ((i k step : ℕ) → i < 32 → k < 8 → Fits ps now l i k step → ⊥)
   -- and choose, where it is not refused, answers that pick
@@ -120,6 +122,7 @@ ports = record {
   call-enable = record { is = λ w κs a g r. refl };
   call-disable = record { is = λ w κs a g r. refl };
   chooses = choose-right;
+  one-choice = right-once;
   nothing = nothing-exactly;
   answers = choose-tells;
   runs-on = timers-run-on;

@@ -1,7 +1,7 @@
 -- A running timer that no reason stops stays as it is, whatever the table of starting reasons says: it is started only if it
 -- isn't set. Assumes nothing.
 use Prim.Native.Nat.{ℕ}
-use mathlib.Core.Path.{_≡_, refl, sym}
+use mathlib.Core.Path.{_≡_, refl}
 use mathlib.Core.Bool.{Bool, true, false, not, cond, _&&_}
 use Rattle.laws.proofs.Bools.{never}
 use Rattle.port_parts.specs.Parts.{none, stamped, isSet}
@@ -18,12 +18,3 @@ module _ (stops starts : Reason → Bool) (why : Reason) (t : Stamp) (now : ℕ)
       by true true e = refl
       by false true e = refl
       by s false e = absurd (never e)
-
-  -- one that isn't running starts now, or stays off
-  pub starts-now : stops why ≡ false → isSet t ≡ false → timerBy (stops why) (starts why) t now ≡ cond (starts why) (stamped now) t
-  starts-now stays unset = λ i. cond (stays i) none (by (starts why) (isSet t) unset i)
-    where
-      by : (s u : Bool) → u ≡ false → cond (s && not u) (stamped now) t ≡ cond s (stamped now) t
-      by s true e = absurd (never (sym e))
-      by true false e = refl
-      by false false e = refl
