@@ -6,3 +6,4 @@ pub mod Shared
 pub mod FoldFrom
 pub mod Survey
 pub mod Leave
+pub mod Lent
