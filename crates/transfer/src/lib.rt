@@ -365,7 +365,7 @@ impl Transfer {
     fn all_sent(self) -> bool
         ensures { λ a. ⌜ a ≡ allSent self ⌝ }
     {
-        self.read as u64 == self.offset as u64 + self.count as u64
+        self.read as u64 == self.end()
     }
 
     // The last ACK that was due.
