@@ -3,6 +3,7 @@ use mathlib.Core.Bool.{true, false}
 use mathlib.Core.List.{_∷_}
 use mathlib.Core.Path.{_≡_, refl, ap}
 use Prim.Native.Nat.{ℕ, _+_, _<_, min}
+use lib.ListN.{replicate}
 use Rattle.open_frame.specs.Priority.{higherThan}
 use Rattle.open_frame.specs.Wait.{waitOf}
 use Rattle.open_frame.specs.declared.Head.{Head}
@@ -10,7 +11,7 @@ use Rattle.open_frame.specs.declared.OpenFrame.{OpenFrame}
 use Rattle.transfer.specs.Rules.{before}
 use Rattle.transfer.specs.Steps.{limit}
 use Rattle.transfer.specs.Calls.{start, frame as framed, run}
-use Rattle.transfer.specs.Examples.{listing, times, listed, output}
+use Rattle.transfer.specs.Examples.{listing, listed, output}
 use Rattle.transfer.proofs.Examples.{p10 as listing-is, p11 as sixteen}
 use Rattle.port_parts.specs.declared.Reason.{Reason}
 use Rattle.port_parts.specs.declared.Request.{Request}
@@ -53,7 +54,7 @@ pub record Examples : Type 0 where
   -- and of the text: the listing's bytes in give the listing's bytes out
   pub p10-text : outputOf listed-bytes ≡ printed
   -- 01 EXAMPLE.6: P11 B 0, M 4, N 100, sixteen frames, no answer: balance 0, unanswered 16.
-  pub p11 : let s = run limit (start 0 100 4 0 ∷ times 16 framed) before in (s .balance ≡ 0) × (s .unanswered ≡ 16)
+  pub p11 : let s = run limit (start 0 100 4 0 ∷ replicate 16 framed) before in (s .balance ≡ 0) × (s .unanswered ≡ 16)
 
 pub examples : Examples
 examples = record {

@@ -4,11 +4,12 @@ use mathlib.Core.Bool.{true}
 use mathlib.Core.List.{_∷_}
 use mathlib.Core.Path.{_≡_, refl}
 use lib.Dec.{eqb}
+use lib.ListN.{replicate}
 use Rattle.laws.proofs.Bools.{by-test}
 use Rattle.transfer.specs.Rules.{before, placed, phaseRule, rules}
 use Rattle.transfer.specs.Steps.{limit, answered, settled, drained, acked, naked, draining, refused, answerCauses, startStep, frameStep, ackStep, nakStep}
 use Rattle.transfer.specs.Calls.{start, frame, stepOf, run}
-use Rattle.transfer.specs.Examples.{listing, times, listed, output}
+use Rattle.transfer.specs.Examples.{listing, listed, output}
 use Rattle.transfer.specs.declared.Transfer.{Transfer}
 use Rattle.transfer.specs.declared.Stepped.{Stepped}
 use Rattle.refusals.proofs.Causes.{by-causes}
@@ -19,7 +20,7 @@ unfolding stepOf startStep frameStep ackStep nakStep settled drained acked naked
 p10 = refl
 
 -- 01 EXAMPLE.6
-pub p11 : let s = run limit (start 0 100 4 0 ∷ times 16 frame) before in (s .balance ≡ 0) × (s .unanswered ≡ 16)
+pub p11 : let s = run limit (start 0 100 4 0 ∷ replicate 16 frame) before in (s .balance ≡ 0) × (s .unanswered ≡ 16)
 unfolding stepOf startStep frameStep rules placed phaseRule
 p11 = (refl, refl)
 

@@ -1,5 +1,5 @@
 -- Document 01, 'Proved examples and traps': the lines of a listing. Assumes nothing.
-use Prim.Native.Nat.{ℕ, zero, suc, _+_}
+use Prim.Native.Nat.{ℕ, _+_}
 use mathlib.Core.List.{List, [], _∷_}
 use Rattle.transfer.specs.Calls.{Call, start, frame, ack, nak, stepOf}
 use Rattle.transfer.specs.declared.Transfer.{Transfer}
@@ -24,10 +24,6 @@ listing bound i [] s = []
 listing bound i (c ∷ cs) s =
     line i (stepOf bound c s .answer) (stepOf bound c s .state .read) (stepOf bound c s .state .balance) (stepOf bound c s .state .unanswered) (stepOf bound c s .state .used)
     ∷ listing bound (i + 1) cs (stepOf bound c s .state)
-
-abbrev pub times : ℕ → Call → List Call
-times zero c = []
-times (suc n) c = c ∷ times n c
 
 -- START 0 8 4 1, then FRAME FRAME NAK ACK FRAME ACK FRAME ACK
 abbrev pub listed : List Call
