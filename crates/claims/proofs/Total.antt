@@ -35,6 +35,8 @@ use Rattle.transfer.proofs.Transfer.taken.Kinds as taken-of
 use Rattle.transfer.proofs.Transfer.taken.Reads as taken
 use Rattle.transfer.proofs.Transfer.frame_length.Kinds as frame-length-of
 use Rattle.transfer.proofs.Transfer.frame_length.Reads as frame-length
+use Rattle.transfer.proofs.Transfer.refused.Kinds as refused-of
+use Rattle.transfer.proofs.Transfer.refused.Reads as refused
 use Rattle.transfer.proofs.Transfer.start.Kinds as start-of
 use Rattle.transfer.proofs.Transfer.start.Reads as start
 use Rattle.transfer.proofs.Transfer.frame.Kinds as frame-of
@@ -231,6 +233,7 @@ pub record Total : Type 2 where
   pub unstarted : Anything 0 unstarted-of.ps unstarted.Pre
   pub taken : Anything 0 taken-of.ps taken.Pre
   pub frame-length : Anything 0 frame-length-of.ps frame-length.Pre
+  pub refused : Anything 0 refused-of.ps refused.Pre
   pub start : Anything 0 start-of.ps start.Pre
   pub frame : Anything 0 frame-of.ps frame.Pre
   pub ack : Anything 0 ack-of.ps ack.Pre
@@ -346,6 +349,7 @@ total = record {
   unstarted = λ κs a. tt;
   taken = λ κs a. tt;
   frame-length = λ κs a. tt;
+  refused = λ κs a. tt;
   start = λ κs a. tt;
   frame = λ κs a. tt;
   ack = λ κs a. tt;

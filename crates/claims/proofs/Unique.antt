@@ -41,6 +41,8 @@ use Rattle.transfer.proofs.Transfer.taken.Kinds as taken-of
 use Rattle.transfer.proofs.Transfer.taken.Reads as taken
 use Rattle.transfer.proofs.Transfer.frame_length.Kinds as frame-length-of
 use Rattle.transfer.proofs.Transfer.frame_length.Reads as frame-length
+use Rattle.transfer.proofs.Transfer.refused.Kinds as refused-of
+use Rattle.transfer.proofs.Transfer.refused.Reads as refused
 use Rattle.transfer.proofs.Transfer.start.Kinds as start-of
 use Rattle.transfer.proofs.Transfer.start.Reads as start
 use Rattle.transfer.proofs.Transfer.frame.Kinds as frame-of
@@ -295,6 +297,7 @@ pub record Unique : Type 2 where
   pub unstarted : One 0 unstarted-of.ps unstarted-of.r (none 0 unstarted-of.ps unstarted-of.r) unstarted.Post
   pub taken : One 0 taken-of.ps taken-of.r (none 0 taken-of.ps taken-of.r) taken.Post
   pub frame-length : One 0 frame-length-of.ps frame-length-of.r (none 0 frame-length-of.ps frame-length-of.r) frame-length.Post
+  pub refused : One 0 refused-of.ps refused-of.r (none 0 refused-of.ps refused-of.r) refused.Post
   pub start : One 0 start-of.ps start-of.r (none 0 start-of.ps start-of.r) start.Post
   pub frame : One 0 frame-of.ps frame-of.r (none 0 frame-of.ps frame-of.r) frame.Post
   pub ack : One 0 ack-of.ps ack-of.r (none 0 ack-of.ps ack-of.r) ack.Post
@@ -410,6 +413,7 @@ unique = record {
   unstarted = λ κs a x y s t p q. (p ∙ sym q, refl);
   taken = λ κs a x y s t p q. (p ∙ sym q, refl);
   frame-length = λ κs a x y s t p q. (p ∙ sym q, refl);
+  refused = λ κs a x y s t p q. (p ∙ sym q, refl);
   start = λ κs a x y s t p q. (p ∙ sym q, refl);
   frame = λ κs a x y s t p q. (p ∙ sym q, refl);
   ack = λ κs a x y s t p q. (p ∙ sym q, refl);

@@ -169,10 +169,7 @@ fn obey(c: Command, t: Transfer) -> Stepped
             return t.cancel();
         }
         Command::Bad => {
-            return Stepped {
-                answer: Answer::Refused(Refusal::Unlisted),
-                state: t,
-            };
+            return t.refused(Refusal::Unlisted);
         }
     }
 }

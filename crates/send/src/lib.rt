@@ -1,7 +1,6 @@
 // Document 01, 'Read transfer': the next-frame call, which writes the DATA frame at the read offset.
 ghost use mathlib.Core.Path.{_≡_};
 ghost use Rattle.transfer.specs.Steps.{limit};
-ghost use Rattle.transfer.specs.Steps as steps;
 ghost use Rattle.send.specs.Send.{changingOf, headOf, isSent, isDone, Went};
 use refusals::Refusal;
 use refusals::Written;
@@ -29,16 +28,6 @@ fn head(s: Transfer, destination: u32, source: u32, tag: u16) -> DataHead
         changing: changing(s),
         tag,
         offset: s.read,
-    }
-}
-
-// The state as it was.
-fn refused(s: Transfer, k: Refusal) -> Stepped
-    ensures { λ r. ⌜ r ≡ steps.refused s k ⌝ }
-{
-    Stepped {
-        answer: Answer::Refused(k),
-        state: s,
     }
 }
 
@@ -84,14 +73,14 @@ pub fn next_frame(
     }
     let h = head(s, destination, source, tag);
     if !data::listed(h) {
-        return refused(s, Refusal::Unlisted);
+        return s.refused(Refusal::Unlisted);
     }
     if body.len() != s.frame_length() as usize {
-        return refused(s, Refusal::Length);
+        return s.refused(Refusal::Length);
     }
     let written = data::write_data(h, body, out);
     if !is_done(written) {
-        return refused(s, Refusal::Length);
+        return s.refused(Refusal::Length);
     }
     stepped
 }

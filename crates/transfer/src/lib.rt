@@ -319,8 +319,8 @@ impl Transfer {
         lesser(self.size as u64, left) as u32
     }
 
-    // The state as it was.
-    fn refused(self, k: Refusal) -> Stepped
+    // A refusal, which leaves the state as it was.
+    pub fn refused(self, k: Refusal) -> Stepped
         ensures { λ a. ⌜ a ≡ steps.refused self k ⌝ }
     {
         Stepped {

@@ -89,9 +89,12 @@ returns-8 c = rw (c .cancel .ensures, c .before .enum-told7 .given .1)
 enum-told-8 : tie.Need-enum-told-8
 enum-told-8 c = search needs
 
+refused-requires : tie.Need-refused-requires
+refused-requires c κs = search needs
+
 returns-9 : tie.Need-returns-9
 unfolding obeyed stepOf
-returns-9 c = rw (c .enum-told8 .given .1)
+returns-9 c = rw (c .refused .ensures, c .before .enum-told8 .given .1)
 
 pub obey-spec : {M : Type 1} → statement M
 obey-spec =
@@ -122,4 +125,5 @@ obey-spec =
     cancel-requires
     returns-8
     enum-told-8
+    refused-requires
     returns-9)
