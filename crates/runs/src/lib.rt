@@ -8,7 +8,7 @@ ghost use Rattle.lines.specs.Numbers.{readNumber, decimal};
 ghost use Rattle.lines.specs.Parts.{tab, fieldAt};
 ghost use Rattle.lines.specs.Puts.{Put};
 ghost use Rattle.runs.specs.Commands.{largest, named, startOf, readLine, obeyed};
-ghost use Rattle.runs.specs.Rows.{rowOf, row, longestRow};
+ghost use Rattle.runs.specs.Rows.{rowOf, longestRow};
 ghost use Rattle.runs.specs.Rows as rows;
 ghost use Rattle.runs.specs.Feed.{enough, runOf, next, closing, Takes, Feeds};
 ghost use Rattle.runs.specs.Feed as feeds;

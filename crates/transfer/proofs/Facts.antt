@@ -161,20 +161,3 @@ Started bound s = Placed (endOf s) s × PhaseRule bound (endOf s) (framesOut s) 
 pub rules-say : (bound : ℕ) (s : Transfer) → Says (rules bound s) ((s ≡ before) ⊎ Started bound s)
 unfolding rules
 rules-say bound s = either (zeros-says s) (both (placed-says (endOf s) s) (phase-says bound (endOf s) (framesOut s) (s .phase) s))
-
--- what a bound allows, a wider one allows
-phase-wider : (b c e d : ℕ) (p : Phase) (s : Transfer) → b ≤ c → PhaseRule b e d p s → PhaseRule c e d p s
-phase-wider b c e d Phase.New s w h = h
-phase-wider b c e d Phase.Run s w (below, (a, inl none)) = (below, (a, inl none))
-phase-wider b c e d Phase.Run s w (below, (a, inr (some, (few, most)))) = (below, (a, inr (some, (omega arith, most))))
-phase-wider b c e d Phase.Drain s w (below, (sent, (again, (some, (few, most))))) = (below, (sent, (again, (some, (omega arith, most)))))
-phase-wider b c e d Phase.Done s w h = h
-phase-wider b c e d Phase.Fail s w h = h
-phase-wider b c e d Phase.End s w h = h
-
-pub rules-wider : (b c : ℕ) (s : Transfer) → b ≤ c → rules b s ≡ true → rules c s ≡ true
-rules-wider b c s w e = rules-say c s .1 (wider (rules-say b s .0 e))
-  where
-    wider : (s ≡ before) ⊎ Started b s → (s ≡ before) ⊎ Started c s
-    wider (inl z) = inl z
-    wider (inr (placed, rule)) = inr (placed, phase-wider b c (endOf s) (framesOut s) (s .phase) s w rule)
