@@ -12,7 +12,9 @@ use Rattle.transfer.specs.Rules.{endOf, before, framesOut, rules}
 use Rattle.transfer.specs.Steps.{unfinished, draining, frameLength, answerCauses}
 use Rattle.transfer.specs.declared.Transfer.{Transfer}
 use Rattle.transfer.specs.declared.Phase.{Phase}
-use Rattle.refusals.proofs.Causes.{NoneGiven}
+use Rattle.transfer.specs.declared.Checked.{Checked}
+use Rattle.refusals.specs.Causes.{refuse}
+use Rattle.transfer.proofs.Causes.{none-given}
 use Rattle.transfer.proofs.Facts.{Started, PhaseRule, rules-say}
 
 -- a function's answer x is a test t of the definitions, and the code went on by it
@@ -64,8 +66,9 @@ pub record Answerable (bound : ℕ) (s : Transfer) : Type 0 where
   pub underway : unfinished (s .phase) ≡ true
   pub some : 0 < s .unanswered
 
-pub answerable : (bound : ℕ) (s : Transfer) → NoneGiven (answerCauses bound s) → Answerable bound s
-answerable bound s off =
+pub answerable : (bound : ℕ) (s : Transfer) {x : Checked} → x ≡ refuse Checked.Refused (answerCauses bound s) Checked.Passed → x ≡ Checked.Passed → Answerable bound s
+answerable bound s is passed =
+    let off = none-given (answerCauses bound s) is passed in
     let left = some-left s (off .1 .0) in
     record { kept = not-false (rules bound s) (off .0); underway = left .0; some = left .1 }
 

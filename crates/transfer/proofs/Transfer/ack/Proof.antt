@@ -1,7 +1,7 @@
 -- `ack` is refused by its check, or goes on to `acked`. Assumes nothing.
 use borrow.Author.Needs.{needs}
 use Rattle.transfer.specs.Steps.{limit, refused, answered, acked, answerCauses, ackStep}
-use Rattle.transfer.proofs.Causes.{none-given, goes-on, stops}
+use Rattle.transfer.proofs.Causes.{goes-on, stops}
 use Rattle.transfer.proofs.Calls.{Answerable, answerable, again}
 use Rattle.transfer.proofs.Transfer.ack.Statement.{statement}
 use Rattle.transfer.proofs.Transfer.ack.Tie as tie
@@ -25,9 +25,7 @@ enum-told : tie.Need-enum-told
 enum-told c = search needs
 
 passed : (c : tie.After-enum-told) → Answerable limit (c .before .before .before .args .self)
-passed c =
-    let s = c .before .before .before .args .self in
-    answerable limit s (none-given (answerCauses limit s) (c .before .before .answer-checked .ensures) (c .enum-told .given .1))
+passed c = answerable limit (c .before .before .before .args .self) (c .before .before .answer-checked .ensures) (c .enum-told .given .1)
 
 sub-self : tie.Need-sub-self
 sub-self c = passed (c .before) .some

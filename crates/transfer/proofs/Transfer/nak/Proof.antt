@@ -1,8 +1,8 @@
 -- `nak` is refused by its check, or goes on to `naked`. Assumes nothing.
 use borrow.Author.Needs.{needs}
 use Rattle.transfer.specs.Steps.{limit, refused, answered, naked, answerCauses, nakStep}
-use Rattle.transfer.proofs.Causes.{none-given, goes-on, stops}
-use Rattle.transfer.proofs.Calls.{Answerable, answerable}
+use Rattle.transfer.proofs.Causes.{goes-on, stops}
+use Rattle.transfer.proofs.Calls.{answerable}
 use Rattle.transfer.proofs.Transfer.nak.Statement.{statement}
 use Rattle.transfer.proofs.Transfer.nak.Tie as tie
 
@@ -24,13 +24,10 @@ returns c =
 enum-told : tie.Need-enum-told
 enum-told c = search needs
 
-passed : (c : tie.After-enum-told) → Answerable limit (c .before .before .before .args .self)
-passed c =
-    let s = c .before .before .before .args .self in
-    answerable limit s (none-given (answerCauses limit s) (c .before .before .answer-checked .ensures) (c .enum-told .given .1))
-
 sub-self : tie.Need-sub-self
-sub-self c = passed (c .before) .some
+sub-self c =
+    let told = c .before in
+    answerable limit (told .before .before .before .args .self) (told .before .before .answer-checked .ensures) (told .enum-told .given .1) .some
 
 naked-requires : tie.Need-naked-requires
 naked-requires c κs = search needs
