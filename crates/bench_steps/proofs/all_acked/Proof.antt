@@ -1,15 +1,15 @@
 -- The loop's invariant: the state is that after as many ACKs as turns. Assumes nothing.
-use Prim.Native.Nat.{_≤_, _-_}
-use mathlib.Core.Path.{_≡_, refl, ap, _∙_}
-use native.Mathlib.Numerals.{add-one}
+use Prim.Native.Nat.{_-_}
+use mathlib.Core.Path.{refl}
 use native.Mathlib.Omega.{arith}
 use borrow.Author.Needs.{needs}
-use Rattle.bench_steps.specs.Rounds.{times, ackOf}
+use Rattle.bench_steps.specs.Rounds.{ackOf}
+use Rattle.bench_steps.proofs.Loops.{Turned, again, all}
 use Rattle.bench_steps.proofs.all_acked.Statement.{statement}
 use Rattle.bench_steps.proofs.all_acked.Tie as tie
 
 abbrev Inv-loop : tie.InvT-loop
-Inv-loop s₀ rounds i₀ s i = (i ≤ rounds) × (s ≡ times ackOf i s₀)
+Inv-loop s₀ rounds i₀ s i = Turned ackOf s₀ rounds s i
 
 abbrev μ-loop : tie.MeasureT-loop
 μ-loop s₀ rounds i₀ s i = rounds - i
@@ -27,15 +27,10 @@ loop-less : tie.Need-loop-less Inv-loop μ-loop
 loop-less c = omega arith
 
 loop-again : tie.Need-loop-again Inv-loop μ-loop
-loop-again c =
-    let l = c .before .before .loop in
-    (omega arith, rw add-one (c .acked .ensures ∙ ap ackOf (l .inv .1)))
+loop-again c = again ackOf _ _ (c .before .before .loop .inv) (c .before .loop-test .taken) (c .acked .ensures)
 
 returns : tie.Need-returns Inv-loop μ-loop
-returns c =
-    let l = c .before .loop in
-    let done : l .i ≡ c .before .before .args .rounds = omega (arith, l .inv .0, c .loop-test .left) in
-    rw done at (l .inv .1)
+returns c = all ackOf _ _ (c .before .loop .inv) (c .loop-test .left)
 
 pub all-acked-spec : {M : Type 1} → statement M
 all-acked-spec =

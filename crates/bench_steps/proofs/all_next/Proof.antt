@@ -1,24 +1,24 @@
 -- The loop's invariant: the last step and the output are those after as many next-frame calls as turns. Assumes nothing.
-use Prim.Native.Nat.{_≤_, _-_}
-use mathlib.Core.Path.{_≡_, refl, ap, _∙_}
-use native.Mathlib.Numerals.{add-one}
+use Prim.Native.Nat.{_-_}
+use mathlib.Core.Path.{_≡_, refl, ap}
 use native.Mathlib.Omega.{arith}
 use lib.ListN as list
 use denote.Ref.{now}
 use borrow.Author.Needs.{needs}
-use Rattle.bench_steps.specs.Rounds.{times, Said, said, nextOf}
+use Rattle.bench_steps.specs.Rounds.{Said, said, nextOf}
+use Rattle.bench_steps.proofs.Loops.{Turned, again, all}
 use Rattle.bench_steps.proofs.all_next.Statement.{statement}
 use Rattle.bench_steps.proofs.all_next.Tie as tie
 
 abbrev Inv-loop : tie.InvT-loop
 Inv-loop rounds destination source tag body out₀ last₀ i₀ out last i =
-    (i ≤ rounds) × ((list.length out ≡ list.length out₀) × (said last out ≡ times (nextOf destination source tag body) i (said last₀ out₀)))
+    (list.length out ≡ list.length out₀) × Turned (nextOf destination source tag body) (said last₀ out₀) rounds (said last out) i
 
 abbrev μ-loop : tie.MeasureT-loop
 μ-loop rounds destination source tag body out₀ last₀ i₀ out last i = rounds - i
 
 loop-holds : tie.Need-loop-holds Inv-loop μ-loop
-loop-holds c = (omega arith, (refl, refl))
+loop-holds c = (refl, (omega arith, refl))
 
 next-frame-requires : tie.Need-next-frame-requires Inv-loop μ-loop
 next-frame-requires c κs = tt
@@ -32,19 +32,18 @@ loop-less c = omega arith
 loop-again : tie.Need-loop-again Inv-loop μ-loop
 loop-again c =
     let at = c .before .before in
-    let l = at .before .before .before .before .loop in
+    let body = at .before .before .before in
     let a = at .before .before .before .before .before .before .before .args in
     let went = at .next-frame .ensures in
-    (omega arith, (search needs, rw add-one ((λ i. said (went .step i) (went .bytes i)) ∙ ap (nextOf (a .destination) (a .source) (a .tag) (now (a .body))) (l .inv .1 .1))))
+    (search needs, again (nextOf (a .destination) (a .source) (a .tag) (now (a .body))) _ _ (body .before .loop .inv .1) (body .loop-test .taken) (λ i. said (went .step i) (went .bytes i)))
 
 same-length : tie.Need-same-length Inv-loop μ-loop
-same-length c = c .before .loop .inv .1 .0
+same-length c = c .before .loop .inv .0
 
 returns : tie.Need-returns Inv-loop μ-loop
 returns c =
-    let l = c .before .loop in
-    let done : l .i ≡ c .before .before .before .before .args .rounds = omega (arith, l .inv .0, c .loop-test .left) in
-    let e = rw done at (l .inv .1 .1) in
+    let a = c .before .before .before .before .args in
+    let e = all (nextOf (a .destination) (a .source) (a .tag) (now (a .body))) _ _ (c .before .loop .inv .1) (c .loop-test .left) in
     record { step = ap (λ (w : Said). w .stepped) e; bytes = ap (λ (w : Said). w .out) e }
 
 pub all-next-spec : {M : Type 1} → statement M

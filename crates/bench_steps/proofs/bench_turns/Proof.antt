@@ -1,16 +1,16 @@
 -- The loop's invariant: the state is that after as many frames and ACKs as turns. Assumes nothing.
-use Prim.Native.Nat.{_≤_, _-_}
-use mathlib.Core.Path.{_≡_, ap, _∙_}
-use native.Mathlib.Numerals.{add-one}
+use Prim.Native.Nat.{_-_}
+use mathlib.Core.Path.{ap, _∙_}
 use native.Mathlib.Omega.{arith}
 use borrow.Author.Needs.{needs}
 use Rattle.transfer.specs.declared.Transfer.{Transfer}
-use Rattle.bench_steps.specs.Rounds.{startedWith, times, frameOf, ackOf, turnOf}
+use Rattle.bench_steps.specs.Rounds.{startedWith, ackOf, turnOf}
+use Rattle.bench_steps.proofs.Loops.{Turned, again, all}
 use Rattle.bench_steps.proofs.bench_turns.Statement.{statement}
 use Rattle.bench_steps.proofs.bench_turns.Tie as tie
 
 abbrev Inv-loop : tie.InvT-loop
-Inv-loop b n m r rounds s₀ i₀ s i = (i ≤ rounds) × (s ≡ times turnOf i (startedWith b n m r))
+Inv-loop b n m r rounds s₀ i₀ s i = Turned turnOf (startedWith b n m r) rounds s i
 
 abbrev μ-loop : tie.MeasureT-loop
 μ-loop b n m r rounds s₀ i₀ s i = rounds - i
@@ -36,14 +36,10 @@ loop-less c = omega arith
 loop-again : tie.Need-loop-again Inv-loop μ-loop
 loop-again c =
     let framed = c .before in
-    let l = framed .before .before .loop in
-    (omega arith, rw add-one (c .acked .ensures ∙ ap ackOf (framed .framed .ensures ∙ ap frameOf (l .inv .1))))
+    again turnOf _ _ (framed .before .before .loop .inv) (framed .before .loop-test .taken) (c .acked .ensures ∙ ap ackOf (framed .framed .ensures))
 
 returns : tie.Need-returns Inv-loop μ-loop
-returns c =
-    let l = c .before .loop in
-    let done : l .i ≡ c .before .before .before .args .rounds = omega (arith, l .inv .0, c .loop-test .left) in
-    ap (λ (s : Transfer). s .balance) (rw done at (l .inv .1))
+returns c = ap (λ (s : Transfer). s .balance) (all turnOf _ _ (c .before .loop .inv) (c .loop-test .left))
 
 pub bench-turns-spec : {M : Type 1} → statement M
 bench-turns-spec =
