@@ -1,7 +1,7 @@
 -- Sentences of document 01 about single calls follow from the calls' definitions: each cause is computed, then what is left and
 -- answered. Assumes nothing.
 use Prim.Native.Nat.{ℕ, _+_, min}
-use mathlib.Core.Bool.{true, false, _&&_}
+use mathlib.Core.Bool.{true, false}
 use mathlib.Core.Path.{_≡_}
 use lib.Dec.{eqb, leb, ltb}
 use Rattle.refusals.specs.declared.Refusal.{Refusal}

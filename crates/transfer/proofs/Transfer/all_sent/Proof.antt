@@ -1,5 +1,4 @@
 -- The read offset is held to what `end` answers, which is B+N. Assumes nothing.
-use Prim.Native.Nat.{ℕ}
 use mathlib.Core.Path.{ap}
 use lib.Dec.{eqb}
 use borrow.Author.Needs.{needs}
