@@ -5,8 +5,9 @@ use mathlib.Core.Bool.{Bool, true, false, not, cond, _&&_, _||_}
 use mathlib.Core.List.{List, [], _∷_}
 use lib.Dec.{eqb, leb, ltb}
 use lib.ListN.{getD}
-use Rattle.refusals.specs.Causes.{Cause, _when_, refuse}
+use Rattle.refusals.specs.Causes.{Cause, _when_, refuse, byCheck}
 use Rattle.refusals.specs.declared.Refusal.{Refusal}
+use Rattle.refusals.specs.declared.Checked.{Checked}
 use Rattle.open_frame.specs.Open.{headListed}
 use Rattle.open_frame.specs.Wait.{awtOf}
 use Rattle.open_frame.specs.declared.Awt.{Awt}
@@ -30,7 +31,6 @@ use Rattle.port_rows.specs.declared.Confirmed.{Confirmed}
 use Rattle.port_rows.specs.declared.Failure.{Failure}
 use Rattle.port_rows.specs.declared.Report.{Report}
 use Rattle.port_rows.specs.declared.Done.{Done}
-use Rattle.port_rows.specs.declared.Checked.{Checked}
 
 -- a record with these in place of its own
 abbrev pub placed : Request → ℕ → ℕ → Request
@@ -106,8 +106,7 @@ phyAt p k = getD (p .phys) k noPhy
 
 -- what a checked call leaves
 abbrev pub given : Checked → Port → Done → Done
-given Checked.Passed p d = d
-given (Checked.Refused k) p d = refusedBy p k
+given c p d = byCheck (refusedBy p) d c
 
 -- ---- setup
 

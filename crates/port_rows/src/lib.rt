@@ -118,9 +118,3 @@ pub struct Report {
     pub status: u8,
     pub now: u64,
 }
-
-// Whether a call goes on.
-pub enum Checked {
-    Passed,
-    Refused(Refusal),
-}

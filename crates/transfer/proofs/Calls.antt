@@ -12,9 +12,9 @@ use Rattle.transfer.specs.Rules.{endOf, before, framesOut, rules}
 use Rattle.transfer.specs.Steps.{unfinished, draining, frameLength, answerCauses}
 use Rattle.transfer.specs.declared.Transfer.{Transfer}
 use Rattle.transfer.specs.declared.Phase.{Phase}
-use Rattle.transfer.specs.declared.Checked.{Checked}
 use Rattle.refusals.specs.Causes.{refuse}
-use Rattle.transfer.proofs.Causes.{none-given}
+use Rattle.refusals.specs.declared.Checked.{Checked}
+use Rattle.refusals.proofs.Causes.{none-given}
 use Rattle.transfer.proofs.Facts.{Started, PhaseRule, rules-say}
 
 -- a function's answer x is a test t of the definitions, and the code went on by it

@@ -1,5 +1,4 @@
 -- What the proofs of several functions cite, and the crates above.
-pub mod Causes
 pub mod Facts
 pub mod Calls
 pub mod Balance

@@ -5,8 +5,9 @@ ghost use Prim.Native.Nat.{_+_, _-_, _<_, _≤_, min};
 ghost use Rattle.transfer.specs.Rules.{endOf, inRange, before, isNew, zeros, ordered, onGrid, placed, framesOut, attempted, runRule, drainRule, doneRule, failRule, endRule, phaseRule, rules};
 ghost use Rattle.transfer.specs.Steps.{limit, say, inPhase, frameLength, allSent, frameCauses, answerCauses, startStep, frameStep, ackStep, nakStep, dropStep, endStep};
 ghost use Rattle.transfer.specs.Steps as steps;
-ghost use Rattle.transfer.specs.declared.Checked.{Checked};
 ghost use Rattle.refusals.specs.Causes.{refuse};
+ghost use Rattle.refusals.specs.declared.Checked.{Checked};
+use refusals::Checked;
 use refusals::Refusal;
 
 pub enum Phase {
@@ -66,12 +67,6 @@ pub struct Transfer {
 pub struct Stepped {
     pub answer: Answer,
     pub state: Transfer,
-}
-
-// Whether a call goes on.
-enum Checked {
-    Passed,
-    Refused(Refusal),
 }
 
 // The most frames that may be unanswered.

@@ -1,7 +1,7 @@
 -- `ack` is refused by its check, or goes on to `acked`. Assumes nothing.
 use borrow.Author.Needs.{needs}
 use Rattle.transfer.specs.Steps.{limit, refused, answered, acked, answerCauses, ackStep}
-use Rattle.transfer.proofs.Causes.{goes-on, stops}
+use Rattle.refusals.proofs.Causes.{goes-on, stops}
 use Rattle.transfer.proofs.Calls.{Answerable, answerable, again}
 use Rattle.transfer.proofs.Transfer.ack.Statement.{statement}
 use Rattle.transfer.proofs.Transfer.ack.Tie as tie

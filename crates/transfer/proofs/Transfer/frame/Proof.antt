@@ -7,8 +7,7 @@ use borrow.Author.Needs.{needs}
 use borrow.Author.Tests.{not-false}
 use Rattle.transfer.specs.Steps.{limit, refused, frameLength, framed, say, with, frameCauses, frameStep}
 use Rattle.transfer.specs.declared.Answer.{Answer}
-use Rattle.refusals.proofs.Causes.{NoneGiven}
-use Rattle.transfer.proofs.Causes.{none-given, goes-on, stops}
+use Rattle.refusals.proofs.Causes.{NoneGiven, none-given, goes-on, stops}
 use Rattle.transfer.proofs.Calls.{countable, frame-fits}
 use Rattle.transfer.proofs.Transfer.frame.Statement.{statement}
 use Rattle.transfer.proofs.Transfer.frame.Tie as tie

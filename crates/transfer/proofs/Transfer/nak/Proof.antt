@@ -1,7 +1,7 @@
 -- `nak` is refused by its check, or goes on to `naked`. Assumes nothing.
 use borrow.Author.Needs.{needs}
 use Rattle.transfer.specs.Steps.{limit, refused, answered, naked, answerCauses, nakStep}
-use Rattle.transfer.proofs.Causes.{goes-on, stops}
+use Rattle.refusals.proofs.Causes.{goes-on, stops}
 use Rattle.transfer.proofs.Calls.{answerable}
 use Rattle.transfer.proofs.Transfer.nak.Statement.{statement}
 use Rattle.transfer.proofs.Transfer.nak.Tie as tie

@@ -2,7 +2,7 @@
 use borrow.Author.Tests.{le-leb, lt-leb}
 use borrow.Author.Needs.{needs}
 use Rattle.transfer.specs.Steps.{limit, refused, dropped, answerCauses, dropStep}
-use Rattle.transfer.proofs.Causes.{goes-on, stops}
+use Rattle.refusals.proofs.Causes.{goes-on, stops}
 use Rattle.transfer.proofs.Transfer.timeout.Statement.{statement}
 use Rattle.transfer.proofs.Transfer.timeout.Tie as tie
 
