@@ -26,13 +26,11 @@ use Rattle.transfer.specs.declared.Transfer.{Transfer}
 use Rattle.transfer.specs.declared.Stepped.{Stepped}
 use Rattle.transfer.specs.declared.Answer.{Answer}
 use Rattle.transfer.proofs.Calls.{frame-fits}
+use Rattle.transfer.proofs.Demand.{apart}
 use Rattle.send.specs.Send.{changingOf, headOf, fitting, nextCauses, nextStep, nextBytes, isSent}
 use Rattle.send.specs.Calls.{Call, next}
 use Rattle.send.specs.History.{Shot, found, written, shotsOf, frameOf, entryOf, frames}
 use Rattle.send.proofs.Laws.{Long, long}
-
-pub apart : _≡_ {A = ℕ} 0 1 → ⊥
-apart z = omega arith
 
 -- the frames of what a call left, before those of the history
 pub joined : (es : List (EntryOf Shot)) (fs : List Entry) (h : List (EntryOf Shot)) → frames es ≡ fs → fs ++ frames h ≡ frames (es ++ h)

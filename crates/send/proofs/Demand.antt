@@ -14,11 +14,11 @@ use Rattle.transfer.specs.History.{Entry, EntryOf, entries, view}
 use Rattle.transfer.specs.declared.Transfer.{Transfer}
 use Rattle.transfer.specs.declared.Stepped.{Stepped}
 use Rattle.transfer.proofs.Balance.{Inv, After, keeps, at-first}
-use Rattle.transfer.proofs.Demand.{demand, demand-of}
+use Rattle.transfer.proofs.Demand.{demand, demand-of, apart}
 use Rattle.send.specs.Send.{headOf, nextStep}
 use Rattle.send.specs.Calls.{Call, plain, next, stepOf, run, Typed, AllTyped}
 use Rattle.send.specs.History.{Shot, unwritten, shotsOf, history, frames}
-use Rattle.send.proofs.Bytes.{apart, entry-frames, joined, Outcome, taken, kept, outcome, next-frames}
+use Rattle.send.proofs.Bytes.{entry-frames, joined, Outcome, taken, kept, outcome, next-frames}
 
 module _ (bound : ℕ) (s : Transfer) (h : List Entry) (i : Inv bound s (view h)) where
   -- what is claimed of a frame call that did st

@@ -13,11 +13,11 @@ use Rattle.transfer.specs.declared.Transfer.{Transfer}
 use Rattle.transfer.specs.declared.Stepped.{Stepped}
 use Rattle.transfer.specs.declared.Phase.{Phase}
 use Rattle.transfer.proofs.Balance.{at-first}
-use Rattle.transfer.proofs.Demand.{goes, first-again}
+use Rattle.transfer.proofs.Demand.{goes, first-again, apart}
 use Rattle.send.specs.Send.{changingOf, headOf, nextBytes}
 use Rattle.send.specs.Calls.{Call, plain, next, stepOf, run, Typed, AllTyped}
 use Rattle.send.specs.History.{Shot, written, unwritten, shotsOf, history, frameOf, frames}
-use Rattle.send.proofs.Bytes.{apart, entry-frames, the-sent, Outcome, taken, kept, outcome, next-frames}
+use Rattle.send.proofs.Bytes.{entry-frames, the-sent, Outcome, taken, kept, outcome, next-frames}
 use Rattle.send.proofs.Demand.{all-sound}
 
 -- what is said of a frame that a call adds to the history: it went in run, and its pointer is the row's

@@ -78,7 +78,7 @@ module _ (bound : ℕ) (s : Transfer) where
 abbrev pub Goes : Transfer → List Entry → Type 0
 Goes s es = (f : Frame) → es ≡ sent f ∷ [] → (s .phase ≡ Phase.Run) × (f .at ≡ s .read)
 
-apart : _≡_ {A = ℕ} 0 1 → ⊥
+pub apart : _≡_ {A = ℕ} 0 1 → ⊥
 apart z = omega arith
 
 nothing-goes : (s : Transfer) → Goes s []
