@@ -1,9 +1,9 @@
 -- Document 01's P lines, one table under one claim: each is computed from the definitions, or is a case of their laws. Assumes nothing.
 use mathlib.Core.Bool.{true, false}
 use mathlib.Core.List.{_∷_}
-use mathlib.Core.Path.{_≡_, refl, ap}
-use Prim.Native.Nat.{ℕ, _+_, _<_, min}
-use lib.ListN.{replicate}
+use mathlib.Core.Path.{_≡_, refl}
+use Prim.Native.Nat.{ℕ, _<_}
+use lib.ListN.{getD, replicate}
 use Rattle.open_frame.specs.Priority.{higherThan}
 use Rattle.open_frame.specs.Wait.{waitOf}
 use Rattle.open_frame.specs.declared.Head.{Head}
@@ -13,10 +13,15 @@ use Rattle.transfer.specs.Steps.{limit}
 use Rattle.transfer.specs.Calls.{start, frame as framed, run}
 use Rattle.transfer.specs.Examples.{listing, listed, output}
 use Rattle.transfer.proofs.Examples.{p10 as listing-is, p11 as sixteen}
+use Rattle.port_parts.specs.Parts.{blank}
+use Rattle.port_parts.specs.Reasons.{reasonOf}
 use Rattle.port_parts.specs.declared.Reason.{Reason}
-use Rattle.port_parts.specs.declared.Request.{Request}
-use Rattle.port_parts.specs.declared.Stamp.{Stamp}
-use Rattle.port_rows.specs.Calls.{again}
+use Rattle.port_rules.specs.Kept.{Free}
+use Rattle.port_rows.specs.Calls.{phyAt}
+use Rattle.port_rows.specs.declared.Failure.{Failure}
+use Rattle.port.specs.Calls.{onPhy}
+use Rattle.port.specs.History.{State, openFailed, leave}
+use Rattle.port_kept.proofs.Blocked.{blocked-again}
 use Rattle.runs.specs.Output.{outputOf}
 use Rattle.runs.specs.Listing.{listed as listed-bytes, printed}
 use Rattle.runs.proofs.Listing.{listing as text-is}
@@ -46,7 +51,8 @@ pub record Examples : Type 0 where
   pub p8 : (h k : Head) (p q awt source : ℕ) → higherThan (frame h p awt source) (frame k q awt source) ≡ false
   -- 01 PORT.19
   -- 01 EXAMPLE.4: P9 PBC 255 blocked again: 255.
-  pub p9 : (r : Request) (now : ℕ) (t : Stamp) → r .pbc .0 ≡ 255 → again r Reason.PathwayBlocked now t .pbc .0 ≡ 255
+  -- by the call of Open Failed, of the phy that names the request, which is there behind it
+  pub p9 : (s : State) (x : Failure) → reasonOf (x .why) ≡ Reason.PathwayBlocked → onPhy (s .list) (s .port) (x .phy) .pbc .0 ≡ 255 → let slot = phyAt (s .port) (x .phy) .slot in slot < 32 → (Free (getD (leave (openFailed x) s .list) slot blank) → ⊥) → getD (leave (openFailed x) s .list) slot blank .pbc .0 ≡ 255
   -- 01 READ.5 01 READ.8
   -- 01 EXAMPLE.5: P10 the listing.
   pub p10 : listing limit 1 listed before ≡ output
@@ -66,7 +72,7 @@ examples = record {
   p6 = refl;
   p7 = λ h k p q source larger l. refl;
   p8 = λ h k p q awt source. neither (frame h p awt source) (frame k q awt source) refl refl;
-  p9 = λ r now t e. ap (λ (n : ℕ). min (n + 1) 255) e;
+  p9 = blocked-again;
   p10 = listing-is;
   p10-text = text-is;
   p11 = sixteen;

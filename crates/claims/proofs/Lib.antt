@@ -15,6 +15,7 @@ pub mod Refusals
 pub mod StepRefusals
 pub mod Steps
 pub mod Text
+pub mod Times
 pub mod Total
 pub mod Unique
 mod Walked

@@ -10,8 +10,9 @@ mod Opens
 mod Lates
 mod Cancels
 mod Chooses
-mod Submits
+pub mod Submits
 pub mod Leaves
 pub mod Timers
+pub mod Blocked
 pub mod Keeps
 pub mod Runs

@@ -38,7 +38,7 @@ module _ (l : List Request) (h : Head) where
   at i = getD l i blank
 
   -- r is a request to the destination of h, both SSP
-  abbrev Mate : Request → Type 0
+  abbrev pub Mate : Request → Type 0
   Mate r = (Free r → ⊥) × SameNexus (r .head) h
 
   abbrev mate : Request → Bool
@@ -48,7 +48,7 @@ module _ (l : List Request) (h : Head) where
   mate-says r = both (unless (equal (r .stage) 0)) (both (equal (r .head .destination) (h .destination)) (both (equal (r .head .protocol) (h .protocol)) (equal (h .protocol) 1)))
 
   -- what is kept of the first n: the timer of some request to the destination, or none if there is no such request
-  data Timer (n : ℕ) : Stamp → Type 0 where
+  pub data Timer (n : ℕ) : Stamp → Type 0 where
     off : ((i : ℕ) → i < n → Mate (at i) → ⊥) → Timer n none
     some : (i : ℕ) → i < n → Mate (at i) → Timer n (at i .loss)
 
@@ -66,7 +66,7 @@ module _ (l : List Request) (h : Head) where
   timer-of zero = off (λ i m has. not-suc-le-zero m)
   timer-of (suc n) = one-more n (foldTo blank step none l n) (timer-of n) (mate (at n)) refl
 
-  room-timer : Timer 32 (roomOf l h .loss)
+  pub room-timer : Timer 32 (roomOf l h .loss)
   room-timer = subst (Timer 32) (sym (fold-part blank (λ a r i. roomStep a r i h) step (λ (a : Room). a .loss) (λ a r i. refl) noRoom l 32)) (timer-of 32)
 
   module _ (p : Port) (was : Kept p l) where

@@ -9,4 +9,12 @@ pub mod Runs
 pub mod Leaving
 pub mod Ends
 pub mod Marks
+pub mod Carried
+pub mod Each
+pub mod Fields
+pub mod Stamps
+pub mod Times
+pub mod Tags
+pub mod Moves
+pub mod Losses
 pub mod Since

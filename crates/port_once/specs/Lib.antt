@@ -4,3 +4,4 @@ pub mod Turns
 pub mod Runs
 pub mod Ends
 pub mod Marks
+pub mod Times

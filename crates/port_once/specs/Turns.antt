@@ -83,3 +83,8 @@ pub record Lawful (s : State) : Type 0 where
 -- every free record is all zeros
 abbrev pub Zeros : List Request → Type 0
 Zeros l = (i : ℕ) → i < 32 → Free (getD l i blank) → getD l i blank ≡ blank
+
+-- 01 PORT.10
+-- an SSP request to the destination
+abbrev pub Ssp : ℕ → Request → Type 0
+Ssp destination r = (Free r → ⊥) × ((r .head .protocol ≡ 1) × (r .head .destination ≡ destination))

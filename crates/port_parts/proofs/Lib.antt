@@ -5,3 +5,4 @@ pub mod Earliest
 pub mod Choices
 pub mod Timers
 mod Tables
+mod Edges

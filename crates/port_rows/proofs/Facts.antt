@@ -1,9 +1,12 @@
 -- Sentences of document 01 about single calls follow from the calls' definitions: each cause is computed, then what is left and
 -- answered. Assumes nothing.
-use Prim.Native.Nat.{ℕ, _+_, min}
-use mathlib.Core.Bool.{true, false}
+use Prim.Native.Nat.{ℕ, _+_, _*_, _≤_, min}
+use mathlib.Core.Bool.{true, false, not, _&&_}
 use mathlib.Core.Path.{_≡_}
+use native.Mathlib.Omega.{arith}
 use lib.Dec.{eqb, leb, ltb}
+use borrow.Author.Tests.{lt-leb}
+use Rattle.laws.proofs.Bools.{and-false}
 use Rattle.refusals.specs.declared.Refusal.{Refusal}
 use Rattle.open_frame.specs.Open.{headListed}
 use Rattle.port_parts.specs.Parts.{none, isSet, isOpening, blank, isFree, isSsp, inRange}
@@ -13,7 +16,7 @@ use Rattle.port_parts.specs.declared.Reason.{Reason}
 use Rattle.port_parts.specs.declared.Request.{Request}
 use Rattle.port_rows.specs.Calls.{phyAt, isNexusLost, isAgain, isCancelled, setupOf, submitOf, openedOf, openFailedOf}
 use Rattle.port_rows.specs.Records.{spread, leftStep}
-use Rattle.port_rows.specs.declared.Word.the-variants.{Taken, Submitted, Send, Ended, NexusLoss, Refused}
+use Rattle.port_rows.specs.declared.Word.the-variants.{Taken, Submitted, Send, Retried, Ended, NexusLoss, Refused}
 use Rattle.port_rows.specs.declared.Loss.{Loss}
 use Rattle.port_rows.specs.declared.Room.{Room}
 use Rattle.port_rows.specs.declared.Wish.{Wish}
@@ -89,6 +92,18 @@ module _ (p : Port) (r : Request) (x : Failure) (listed : isListed (reasonOf (x 
   unfolding openFailedOf
   nexus-lost wanted retried lost = rw (wanted, retried, lost, listed, own, due, opening)
 
+  -- 01 PORT.25: the loss is judged behind the confirmation: Retry stops the timer first, however long it ran,
+  stopped-goes-on : isCancelled r ≡ false → isSsp (r .head) ≡ true → reasonOf (x .why) ≡ Reason.Retry → openFailedOf p r true x .answer .word ≡ Retried
+  unfolding openFailedOf
+  stopped-goes-on wanted ssp why = rw (wanted, ssp, listed, own, due, opening, why)
+
+  -- and No Destination starts it, so that none of its time has passed
+  started-goes-on : isCancelled r ≡ false → isSsp (r .head) ≡ true → isSet (r .loss) ≡ false → 1 ≤ p .loss → reasonOf (x .why) ≡ Reason.NoDestination → openFailedOf p r true x .answer .word ≡ Retried
+  unfolding openFailedOf
+  started-goes-on wanted ssp off some why =
+      let early : not (eqb (p .loss) 65535) && leb (x .now + p .loss * 1000) (x .now) ≡ false = and-false (not (eqb (p .loss) 65535)) (lt-leb (x .now + p .loss * 1000) (x .now) (omega (arith, some))) in
+      rw (wanted, ssp, listed, own, due, opening, why, off, early)
+
   -- an SSP request whose destination's loss timer runs, and a reason that doesn't stop it
   module _ (ssp : isSsp (r .head) ≡ true) (running : isSet (r .loss) ≡ true) (going : isStopping (reasonOf (x .why)) ≡ false) where
     -- 01 TRAP.3
@@ -105,6 +120,11 @@ module _ (p : Port) (r : Request) (x : Failure) (listed : isListed (reasonOf (x 
 
   -- and the request that is retried
   module _ (again : isAgain p r (reasonOf (x .why)) (x .now) ≡ true) where
+    -- 01 PORT.12: each retry leaves its time, whatever its reason
+    retry-stamped : openFailedOf p r true x .entry .retry ≡ record { set = 1; at = x .now }
+    unfolding openFailedOf
+    retry-stamped = rw (listed, own, due, opening, again)
+
     module _ (blocked : reasonOf (x .why) ≡ Reason.PathwayBlocked) where
       -- 01 PORT.19: Pathway Blocked keeps the wait running, since the first open stays
       runs-on : openFailedOf p r true x .entry .first ≡ r .first

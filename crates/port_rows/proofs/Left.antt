@@ -74,6 +74,15 @@ module _ (p : Port) (r : Request) (b : Pick) (now : ℕ) (due : ltb now (p .last
   unfolding chooseOf chosen
   first-carries e unset = let same : now - now ≡ 0 = omega arith in rw (due, e, unset) (ap waitOf same)
 
+  -- 01 PORT.16: the request keeps the time of its first open, which is this one if there was none
+  first-kept : b .step ≡ 2 → isSet (r .first) ≡ true → chooseOf p r true b now .entry .first ≡ r .first
+  unfolding chooseOf chosen
+  first-kept e set = rw (due, e, set)
+
+  first-now : b .step ≡ 2 → isSet (r .first) ≡ false → chooseOf p r true b now .entry .first ≡ record { set = 1; at = now }
+  unfolding chooseOf chosen
+  first-now e unset = rw (due, e, unset)
+
   -- 01 PORT.13: (3): the phy closes and names none
   closes-on : b .step ≡ 3 → chooseOf p r true b now .port ≡ put p (b .phy) 5 32 (phyAt p (b .phy) .protocol) (phyAt p (b .phy) .destination) now
   unfolding chooseOf chosen
