@@ -16,10 +16,11 @@ use Rattle.xl_parts.specs.declared.Stepped.{Stepped}
 use Rattle.xl_parts.specs.Parts.{Effect, forgets, remembering, entered}
 use Rattle.xl_parts.specs.Kinds.{Kind, kindOf, Said, saidBy}
 use Rattle.xl_rows.specs.Table.{stands, returns, crossed, heardIn6, rows, breakRows, rowsFor, takes, unexpected}
+use Rattle.xl_rows.specs.Sentences.{oneOf}
 use Rattle.xl_rows.proofs.Rows.{Every}
 use Rattle.xl_calls.specs.Links.{Call, callOf}
 use Rattle.xl_parts.specs.Path.{onPath, releases}
-use Rattle.xl_calls.specs.Path.{leavesTo, oneOf}
+use Rattle.xl_calls.specs.Path.{leavesTo}
 use Rattle.xl_calls.proofs.Links.{by-call}
 use Rattle.xl_calls.proofs.Looked.{looked}
 

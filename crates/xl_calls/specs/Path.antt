@@ -1,8 +1,5 @@
 -- Where each state's path is left to. Assumes nothing.
-use mathlib.Core.Bool.{Bool, false, _||_}
 use mathlib.Core.List.{List, [], _∷_}
-use lib.Dec.{eqb}
-use Rattle.xl_parts.specs.Parts.{phaseNumber}
 use Rattle.xl_parts.specs.declared.Phase.{Phase}
 use Rattle.xl_parts.specs.declared.Phase.the-variants.{Xl0, Xl1, Xl2, Xl3, Xl4, Xl5, Xl6, Xl7, Xl8, Xl9, Xl10}
 
@@ -20,7 +17,3 @@ leavesTo Xl7 = Xl0 ∷ Xl9 ∷ Xl10 ∷ []
 leavesTo Xl8 = Xl0 ∷ Xl9 ∷ Xl10 ∷ []
 leavesTo Xl9 = []
 leavesTo Xl10 = []
-
-abbrev pub oneOf : Phase → List Phase → Bool
-oneOf p [] = false
-oneOf p (q ∷ qs) = eqb (phaseNumber p) (phaseNumber q) || oneOf p qs

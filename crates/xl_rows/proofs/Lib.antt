@@ -1,4 +1,5 @@
 -- The laws of the table.
 pub mod Crossing
 pub mod Rows
-pub mod Facts
+pub mod Sentences
+pub mod Chains

@@ -1,2 +1,4 @@
--- Document 01, 'XL': its table.
+-- Document 01, 'XL': its table, and each sentence a second time.
 pub mod Table
+pub mod Sentences
+pub mod Chains
