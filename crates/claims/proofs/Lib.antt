@@ -12,6 +12,7 @@ mod Grounds
 pub mod Ports
 pub mod Priority
 pub mod Refusals
+pub mod Rows
 pub mod StepRefusals
 pub mod Steps
 pub mod Text

@@ -4,7 +4,8 @@ pub mod Links
 pub mod Kept
 pub mod Counts
 pub mod Shown
-pub mod Crossing
+pub mod After
 pub mod Looked
 pub mod Seen
 pub mod Released
+pub mod Statuses

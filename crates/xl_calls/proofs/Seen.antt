@@ -2,7 +2,7 @@
 -- it forwarded, or the connection. The row with that action clears or sets the memory, and until the state is left each row changes it as
 -- the event says. Assumes nothing.
 use Prim.Native.Nat.{ℕ}
-use mathlib.Core.Bool.{Bool, true, false, not}
+use mathlib.Core.Bool.{Bool, false, not}
 use mathlib.Core.List.{List, [], _∷_}
 use mathlib.Core.Path.{_≡_, refl, sym, subst, _∙_}
 use borrow.Author.Tests.{not-false}
@@ -32,7 +32,7 @@ use Rattle.xl_parts.specs.declared.Memory.{Memory}
 use Rattle.xl_parts.specs.declared.State.{State}
 use Rattle.xl_parts.specs.declared.Stepped.{Stepped}
 use Rattle.xl_parts.specs.Parts.{Effect, forgets, remembering, entered, ready, done, first}
-use Rattle.xl_parts.specs.Kinds.{Kind, kindOf, Said, saidBy}
+use Rattle.xl_parts.specs.Kinds.{kindOf, Said, saidBy}
 use Rattle.xl_rows.specs.Table.{stands, returns, crossed, heardIn6, rows, breakRows, rowsFor, takes, unexpected}
 use Rattle.xl_rows.specs.Sentences.{link}
 use Rattle.xl_rows.proofs.Rows.{Every}

@@ -2,3 +2,5 @@
 pub mod Path
 pub mod Links
 pub mod Met
+pub mod After
+pub mod Statuses

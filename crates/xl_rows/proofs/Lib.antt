@@ -1,5 +1,4 @@
 -- The laws of the table.
-pub mod Crossing
 pub mod Rows
 pub mod Sentences
 pub mod Chains

@@ -33,7 +33,7 @@ use Rattle.xl_rows.specs.Table.{returns, backoff, crossed, takes, unexpe
 use Rattle.xl_rows.specs.Sentences.{oneOf, link, known, gives, listedIn, BacksOff, Crosses, Sentences}
 
 -- what holds of each state holds of any
-by-phase : (P : Phase → Type 0) → P Xl0 → P Xl1 → P Xl2 → P Xl3 → P Xl4 → P Xl5 → P Xl6 → P Xl7 → P Xl8 → P Xl9 → P Xl10 → (p : Phase) → P p
+pub by-phase : (P : Phase → Type 0) → P Xl0 → P Xl1 → P Xl2 → P Xl3 → P Xl4 → P Xl5 → P Xl6 → P Xl7 → P Xl8 → P Xl9 → P Xl10 → (p : Phase) → P p
 by-phase P a b c d e f g h i j k Xl0 = a
 by-phase P a b c d e f g h i j k Xl1 = b
 by-phase P a b c d e f g h i j k Xl2 = c
@@ -126,15 +126,19 @@ module _ (f g : OpenFrame) where
     tested : (t : Bool) → higherThan g f ≡ t → first lead (crossed (Frame f) g (at Never)) ≡ first lead (cond (not t) (stay [] (at Never)) (backoff f g (at Never)))
     tested t e = ap (λ (t : Bool). first lead (cond (not t) (stay [] (at Never)) (backoff f g (at Never)))) e
 
-    stands : higherThan g f ≡ false → first lead (crossed (Frame f) g (at Never)) ≡ gives (at Never) lead
+    pub stands : higherThan g f ≡ false → first lead (crossed (Frame f) g (at Never)) ≡ gives (at Never) lead
     stands e = tested false e ∙ ap (λ (acts : List Action). gives (at Never) acts) (append-nil lead)
+
+    pub overtakes : higherThan g f ≡ true → (a : Seen) → Back (first lead (crossed (Frame f) g (at a)))
+    overtakes e Never = subst⁻¹ Back (tested true e) (backs Never)
+    overtakes e (Latest w) = backs (Latest w)
 
     pub crosses : Crosses f g lead (m .heard) (m .broke) (m .close) (m .blocked) n (first lead (crossed (Frame f) g (at Never)))
     crosses = record {
       smaller = λ l. stands (lower l);
       not-larger = λ e l. stands (behind e ∙ (λ i. le-ltb (f .head .source) (g .head .source) l i || and-false (eqb (g .head .source) (f .head .source)) refl i));
-      larger-wait = λ l. subst⁻¹ Back (tested true (higher l)) (backs Never);
-      larger-source = λ e l. subst⁻¹ Back (tested true (behind e ∙ or-left (eqb (g .head .source) (f .head .source) && false) (lt-ltb (f .head .source) (g .head .source) l))) (backs Never);
+      larger-wait = λ l. overtakes (higher l) Never;
+      larger-source = λ e l. overtakes (behind e ∙ or-left (eqb (g .head .source) (f .head .source) && false) (lt-ltb (f .head .source) (g .head .source) l)) Never;
     }
 
 pub sentences : (f : OpenFrame) (m : Memory) (n : ℕ) → Sentences takes f m n
