@@ -14,6 +14,7 @@ use Rattle.open_frame.specs.declared.OpenFrame.{OpenFrame}
 use Rattle.xl_parts.specs.declared.Phase.{Phase}
 use Rattle.xl_parts.specs.declared.Phase.the-variants.{Xl0, Xl1, Xl2, Xl3, Xl4, Xl5, Xl6, Xl7, Xl8, Xl9, Xl10}
 use Rattle.xl_parts.specs.declared.Wait.{Wait}
+use Rattle.xl_parts.specs.declared.Reject.{Reject}
 use Rattle.xl_parts.specs.declared.Primitive.{Primitive}
 use Rattle.xl_parts.specs.declared.Message.{Message}
 use Rattle.xl_parts.specs.declared.Notice.{Notice}
@@ -30,7 +31,7 @@ use Rattle.xl_parts.specs.declared.Memory.{Memory}
 use Rattle.xl_parts.specs.declared.State.{State}
 use Rattle.xl_parts.specs.Parts.{Effect, first, stay}
 use Rattle.xl_rows.specs.Table.{returns, backoff, crossed, takes, unexpected}
-use Rattle.xl_rows.specs.Sentences.{oneOf, link, known, gives, listedIn, BacksOff, Crosses, Sentences}
+use Rattle.xl_rows.specs.Sentences.{oneOf, link, known, gives, listedIn, OneOfEight, no, bad, wrong, rate, protocol, blocked, busy, retry, BacksOff, Crosses, Sentences}
 
 -- what holds of each state holds of any
 pub by-phase : (P : Phase → Type 0) → P Xl0 → P Xl1 → P Xl2 → P Xl3 → P Xl4 → P Xl5 → P Xl6 → P Xl7 → P Xl8 → P Xl9 → P Xl10 → (p : Phase) → P p
@@ -97,6 +98,16 @@ one-more p m n l = let e : min (n + 1) 4294967295 ≡ n + 1 = omega (arith, l) i
 joined : (P : Phase → Type 0) → P Xl3 → P Xl6 → P Xl7 → P Xl8 → (p : Phase) → oneOf p (Xl3 ∷ Xl6 ∷ Xl7 ∷ Xl8 ∷ []) ≡ true → P p
 joined P a b c d = by-phase (λ p. oneOf p (Xl3 ∷ Xl6 ∷ Xl7 ∷ Xl8 ∷ []) ≡ true → P p) impossible impossible impossible (λ q. a) impossible impossible (λ q. b) (λ q. c) (λ q. d) impossible impossible
 
+one-of-eight : (k : Reject) → OneOfEight k
+one-of-eight Reject.NoDestination = no
+one-of-eight Reject.BadDestination = bad
+one-of-eight Reject.WrongDestination = wrong
+one-of-eight Reject.Rate = rate
+one-of-eight Reject.Protocol = protocol
+one-of-eight Reject.PathwayBlocked = blocked
+one-of-eight Reject.Busy = busy
+one-of-eight Reject.Retry = retry
+
 -- the OPEN g, where f was transmitted
 module _ (f g : OpenFrame) where
   lower : g .awt .0 < f .awt .0 → higherThan g f ≡ false
@@ -148,6 +159,8 @@ sentences f m n = record {
   stops = λ p e q. any f m 4294967295 e p q;
   -- 01 XL.3
   disables = λ p. refl;
+  -- 01 XL.5
+  kinds = one-of-eight;
   -- 01 XL.7 01 XL.36
   break-received = joined (λ p. takes f (Break BreakEvent.Received) (link p m n) ≡ gives (link Xl9 m n) (Action.Break BreakAction.Send ∷ Action.Break BreakAction.Transmit ∷ [])) refl refl refl refl;
   break-routed = joined (λ p. takes f (Break BreakEvent.Routed) (link p m n) ≡ gives (link Xl10 m n) (Action.Break BreakAction.Transmit ∷ [])) refl refl refl refl;
@@ -194,7 +207,7 @@ sentences f m n = record {
   open-in-5 = refl;
   break-in-5 = refl;
   -- 01 XL.27
-  sent-in-5 = λ q h. rw (q, h);
+  sent-in-5 = λ q h. simp (q, h);
   sent-broken = λ q. rw q;
   sent-crosses = λ t g. crosses t g (Send (Message.ArbStatus Wait.Device) ∷ []) (known (Frame t) Nothing Never false (m .close) (m .blocked)) n;
   sent-backs-off = λ t g w. backs t g (Send (Message.ArbStatus Wait.Device) ∷ []) (known (Frame t) Nothing Never false (m .close) (m .blocked)) n (Latest w);
@@ -209,7 +222,7 @@ sentences f m n = record {
   -- 01 XL.32
   backs-off = λ t w. backs t f [] m n (Latest w);
   -- 01 XL.33
-  close-in-7 = λ q. rw q;
+  close-in-7 = λ q. simp q;
   second-close = λ q l. let e : takes f (Line Primitive.Close) (link Xl7 m n) ≡ unexpected (link Xl7 m n) = rw q in e ∙ one-more Xl7 m n l;
   -- 01 XL.10 01 XL.34
   closes-last = λ q. rw q;

@@ -81,6 +81,17 @@ listedIn (Own n) = ownIn n
 listedIn (Break b) = breakIn b
 listedIn Disable = Xl0 ∷ Xl1 ∷ Xl2 ∷ Xl3 ∷ Xl4 ∷ Xl5 ∷ Xl6 ∷ Xl7 ∷ Xl8 ∷ Xl9 ∷ Xl10 ∷ []
 
+-- 01 XL.5: OPEN_REJECT kinds: NO, BAD and WRONG DESTINATION, CONNECTION RATE and PROTOCOL NOT SUPPORTED, PATHWAY BLOCKED, STP RESOURCES BUSY, RETRY.
+pub data OneOfEight : Reject → Type 0 where
+  no : OneOfEight Reject.NoDestination
+  bad : OneOfEight Reject.BadDestination
+  wrong : OneOfEight Reject.WrongDestination
+  rate : OneOfEight Reject.Rate
+  protocol : OneOfEight Reject.Protocol
+  blocked : OneOfEight Reject.PathwayBlocked
+  busy : OneOfEight Reject.Busy
+  retry : OneOfEight Reject.Retry
+
 -- 01 XL.32: Otherwise it is held; if its destination and rate equal source and rate of the frame transmitted: BackoffReversePath of it, XL2 with no SendOpen; else BackoffRetry, XL1.
 -- f was transmitted, g was received; x comes of it, behind the actions `lead`, where the link remembers `heard`
 pub record BacksOff (f g : OpenFrame) (lead : List Action) (heard : Held) (close blocked : Bool) (n : ℕ) (x : Effect) : Type 0 where
@@ -88,7 +99,7 @@ pub record BacksOff (f g : OpenFrame) (lead : List Action) (heard : Held) (close
   pub retries : ((g .head .destination ≡ f .head .source) × (g .head .rate ≡ f .head .rate) → ⊥) → x ≡ gives (link Xl1 (known (Frame g) heard Never false close false) n) (lead ++ Send Message.BackoffRetry ∷ RequestPath false ∷ Transmit (Primitive.Aip Wait.Normal) ∷ [])
 
 -- 01 XL.31: OPEN: if no AIP was seen and it isn't of higher priority than the frame transmitted, nothing.
--- no AIP was seen; `still` is XL6 as it was
+-- no AIP was seen, and where nothing comes of it XL6 is as it was
 pub record Crosses (f g : OpenFrame) (lead : List Action) (heard : Held) (broke close blocked : Bool) (n : ℕ) (x : Effect) : Type 0 where
   pub smaller : g .awt .0 < f .awt .0 → x ≡ gives (link Xl6 (known (Frame f) heard Never broke close blocked) n) lead
   pub not-larger : g .awt .0 ≡ f .awt .0 → g .head .source ≤ f .head .source → x ≡ gives (link Xl6 (known (Frame f) heard Never broke close blocked) n) lead
@@ -102,6 +113,8 @@ pub record Sentences (takes : OpenFrame → Event → State → Effect) (f : Ope
   pub stops : (p : Phase) (e : Event) → oneOf p (listedIn e) ≡ false → takes f e (link p m 4294967295) ≡ gives (link p m 4294967295) []
   -- 01 XL.3: Disable: XL0 from any state, no action.
   pub disables : (p : Phase) → takes f Disable (link p m n) ≡ gives (link Xl0 (known Nothing Nothing Never false false false) n) []
+  -- 01 XL.5
+  pub kinds : (k : Reject) → OneOfEight k
   -- 01 XL.7: In XL3, XL6, XL7 and XL8, BREAK received: SendBreak, XL9; SendBreak: XL10.
   -- 01 XL.36: XL9 and XL10 transmit BREAK on entry.
   pub break-received : (p : Phase) → oneOf p (Xl3 ∷ Xl6 ∷ Xl7 ∷ Xl8 ∷ []) ≡ true → takes f (Break BreakEvent.Received) (link p m n) ≡ gives (link Xl9 m n) (Action.Break BreakAction.Send ∷ Action.Break BreakAction.Transmit ∷ [])
