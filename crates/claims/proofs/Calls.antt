@@ -9,6 +9,8 @@ use Rattle.open_frame.proofs.read_open.Kinds as read-open-of
 use Rattle.open_frame.proofs.read_open.Reads as read-open
 use Rattle.open_frame.proofs.write_open.Kinds as write-open-of
 use Rattle.open_frame.proofs.write_open.Reads as write-open
+use Rattle.open_frame.proofs.wait_value.Kinds as wait-value-of
+use Rattle.open_frame.proofs.wait_value.Reads as wait-value
 use Rattle.open_frame.proofs.higher.Kinds as higher-of
 use Rattle.open_frame.proofs.higher.Reads as higher
 use Rattle.ssp_frame.proofs.data.read_data.Kinds as read-data-of
@@ -71,6 +73,9 @@ ReadOpen = Outcome 1 read-open-of.ps read-open-of.r read-open.Post
 
 abbrev pub WriteOpen : Type 0
 WriteOpen = Outcome 1 write-open-of.ps write-open-of.r write-open.Post
+
+abbrev pub WaitValue : Type 0
+WaitValue = Outcome 0 wait-value-of.ps wait-value-of.r wait-value.Post
 
 abbrev pub Higher : Type 0
 Higher = Outcome 0 higher-of.ps higher-of.r higher.Post

@@ -19,4 +19,5 @@ pub mod Text
 pub mod Times
 pub mod Total
 pub mod Unique
+pub mod Waits
 mod Walked

@@ -2,4 +2,5 @@
 mod Bytes
 pub mod Fields
 pub mod Trip
+pub mod Wait
 pub mod Priority
