@@ -1,7 +1,7 @@
 -- Document 01's causes of refusal as propositions, in its words, byte by byte: what has to hold for a call not to be refused.
 -- Assumes nothing.
-use Prim.Native.Nat.{ℕ, _+_, _-_, _*_, _/_, _%_, _≤_, _<_}
-use mathlib.Core.List.{List}
+use Prim.Native.Nat.{ℕ, _+_, _-_, _*_, _/_, _%_, _^_, _≤_, _<_}
+use mathlib.Core.List.{List, [], _∷_}
 use mathlib.Core.Path.{_≡_}
 use lib.ListN.{length, getD}
 use mathlib.Core.Logic.{_↔_}
@@ -13,6 +13,13 @@ use Rattle.ssp_frame.specs.declared.data.DataHead.{DataHead}
 -- a slice of bytes
 abbrev pub Bytes : List ℕ → Type 0
 Bytes s = (i : ℕ) → getD s i 0 < 256
+
+-- numbers of so many bytes each
+abbrev pub Wide : List ℕ → List ℕ → Type 0
+Wide [] [] = Unit {0}
+Wide [] (x ∷ xs) = ⊥
+Wide (n ∷ ns) [] = ⊥
+Wide (n ∷ ns) (x ∷ xs) = (x < 256 ^ n) × Wide ns xs
 
 -- 01 OPEN.6: Any other length is refusal 1, any other type, protocol or rate 2.
 pub record OpenBytes (s : List ℕ) : Type 0 where

@@ -1,13 +1,16 @@
 -- C sees an answer as a number and what was lent as it is left, and both go through each way out of a reader or writer.
 -- Assumes nothing.
-use mathlib.Core.Path.{_≡_, _∙_, ap}
+use mathlib.Core.Bool.{Bool, true}
+use mathlib.Core.Path.{_≡_, refl, sym, _∙_, ap}
 use mathlib.Core.List.{List}
 use Prim.Native.Nat.{ℕ}
 use Rattle.refusals.specs.Refusals.{numberOf, answerOf}
-use Rattle.refusals.specs.Causes.{Cause, Wrote}
+use Rattle.refusals.specs.Causes.{Cause, refuse, bufferCauses, Wrote}
 use Rattle.refusals.specs.declared.Written.{Written}
 use Rattle.refusals.specs.declared.Written.the-variants.{Done, Refused as NotWritten}
 use Rattle.refusals.proofs.Causes.{through}
+use Rattle.refusals.proofs.Frames.{by-none}
+use Rattle.refusals.proofs.Numbers.{not-zero}
 use Rattle.open_frame.specs.Open.{frameOf, readOpen, readCauses as openReads}
 use Rattle.open_frame.specs.declared.OpenFrame.{OpenFrame}
 use Rattle.open_frame.specs.declared.OpenRead.{OpenRead}
@@ -52,3 +55,32 @@ data-read s before e = record {
 -- the same of any writer
 pub wrote : {cs : List Cause} {new before after : List ℕ} {w : Written} {r : ℕ} → Wrote cs new before w after → r ≡ answerOf w → Called cs new before r after
 wrote {cs} p e = record { answer = e ∙ ap answerOf (p .answer) ∙ through answerOf NotWritten cs Done; lent = p .bytes }
+
+-- ---- what C knows by its answer
+
+-- what the reader found
+pub open-told : (s : List ℕ) (before : OpenFrame) {f : OpenFrame} {r : ℕ} {after : OpenFrame} → readOpen s ≡ Open f → Called (openReads s) (frameOf s) before r after → (r ≡ 0) × (after ≡ f)
+open-told s before e c =
+    let is = open-read s before refl in
+    (c .answer ∙ sym (is .answer) ∙ ap openNumber e, c .lent ∙ sym (is .lent) ∙ ap (openLeft before) e)
+
+pub data-told : (s : List ℕ) (before : DataFrame) {f : DataFrame} {r : ℕ} {after : DataFrame} → readData s ≡ Data f → Called (dataReads s) (dataOf s) before r after → (r ≡ 0) × (after ≡ f)
+data-told s before e c =
+    let is = data-read s before refl in
+    (c .answer ∙ sym (is .answer) ∙ ap dataNumber e, c .lent ∙ sym (is .lent) ∙ ap (dataLeft before) e)
+
+-- a writer that answers 0 is done
+zero-done : (w : Written) → answerOf w ≡ 0 → w ≡ Done
+zero-done Done e = refl
+zero-done (NotWritten k) e = absurd (not-zero k (sym e))
+
+module _ {cs : List Cause} {new before after : List ℕ} {r : ℕ} (c : Called cs new before r after) where
+  pub writes : Wrote cs new before (refuse NotWritten cs Done) after
+  writes = record { answer = refl; bytes = c .lent }
+
+  pub done-writing : r ≡ 0 → refuse NotWritten cs Done ≡ Done
+  done-writing e = zero-done (refuse NotWritten cs Done) (through answerOf NotWritten cs Done ∙ sym (c .answer) ∙ e)
+
+-- a writer that passes both tests answers 0 and leaves the new bytes
+pub written : (new before : List ℕ) {s t : Bool} {r : ℕ} {after : List ℕ} → Called (bufferCauses s t) new before r after → s ≡ true → t ≡ true → (r ≡ 0) × (after ≡ new)
+written new before c sized listed = (c .answer ∙ sym (by-none numberOf 0 sized listed), c .lent ∙ sym (by-none (λ _. before) new sized listed))

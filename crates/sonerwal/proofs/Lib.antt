@@ -1,2 +1,3 @@
--- What the proofs of the calls cite.
-mod Laws
+-- What the proofs of the calls cite, and the crate above.
+pub mod Laws
+pub mod Laid

@@ -1,2 +1,3 @@
--- What the C face promises.
+-- What the C face promises, and a frame of each kind as C sees it.
 pub mod Face
+pub mod Typed
