@@ -24,7 +24,9 @@ use Rattle.port.specs.History.{State, openFailed, leave}
 use Rattle.port_kept.proofs.Blocked.{blocked-again}
 use Rattle.runs.specs.Output.{outputOf}
 use Rattle.runs.specs.Listing.{listed as listed-bytes, printed}
+use Rattle.runs.specs.Typed.{typedInput, typedOutput}
 use Rattle.runs.proofs.Listing.{listing as text-is}
+use Rattle.runs.proofs.Facts.{listed as listed-typed}
 use Rattle.open_frame.proofs.Priority.{neither}
 
 -- an OPEN frame with this AWT and source, whatever its other fields
@@ -59,6 +61,8 @@ pub record Examples : Type 0 where
   -- 01 TEXT.6
   -- and of the text: the listing's bytes in give the listing's bytes out
   pub p10-text : outputOf listed-bytes ≡ printed
+  -- the same, typed
+  pub p10-bytes : outputOf typedInput ≡ typedOutput
   -- 01 EXAMPLE.6: P11 B 0, M 4, N 100, sixteen frames, no answer: balance 0, unanswered 16.
   pub p11 : let s = run limit (start 0 100 4 0 ∷ replicate 16 framed) before in (s .balance ≡ 0) × (s .unanswered ≡ 16)
 
@@ -75,5 +79,6 @@ examples = record {
   p9 = blocked-again;
   p10 = listing-is;
   p10-text = text-is;
+  p10-bytes = listed-typed;
   p11 = sixteen;
 }

@@ -3,29 +3,37 @@
 -- is read as it is written. Assumes nothing.
 use Prim.Native.Nat.{ℕ, _+_, _≤_, _<_}
 use mathlib.Core.Bool.{Bool, true, false, cond}
-use mathlib.Core.List.{List, [], _∷_, _++_}
+use mathlib.Core.List.{List, [], _∷_, _++_, map}
 use mathlib.Core.Path.{_≡_, refl, sym, ap, _∙_}
 use borrow.Author.Tests.{le-ltb, lt-ltb}
 use denote.Ref.{now}
 use lib.Dec.{eqb}
-use lib.ListN.{length, take, drop}
+use lib.ListN.{length, take, drop, replicate}
 use lib.Seq.{take-append-seam}
 use Rattle.laws.proofs.Lists.{front-again}
 use Rattle.lines.specs.Numbers.{readNumber, decimal}
 use Rattle.lines.specs.Parts.{lf}
 use Rattle.lines.specs.declared.Number.the-variants.{Value}
 use Rattle.lines.proofs.Numbers.{read-written, written-read}
-use Rattle.runs.specs.Commands.{readLine, written, Writable}
-use Rattle.runs.specs.Rows.{longestRow}
+use Rattle.refusals.specs.declared.Refusal.{Refusal}
+use Rattle.transfer.specs.Steps.{limit, refused}
+use Rattle.transfer.specs.Calls.{Call, stepOf}
+use Rattle.transfer.specs.declared.Answer.{Answer}
+use Rattle.transfer.specs.declared.Transfer.{Transfer}
+use Rattle.runs.specs.Commands.{readLine, written, Writable, obeyed}
+use Rattle.runs.specs.Rows.{wordOf, rowOf, longestRow}
 use Rattle.runs.specs.Feed.{Carry, next, carryOf, runOf, fresh, after, said, takes, takenOf, closing, Feeds}
 use Rattle.runs.specs.Output.{outputOf}
+use Rattle.runs.specs.Typed.{typedLines, typedCommands, typedCalls, otherLines, typedWords, typedAnswers, typedRow}
 use Rattle.runs.specs.declared.Command.{Command}
 use Rattle.runs.specs.declared.Command.the-variants.{Bad}
 use Rattle.runs.specs.declared.Run.{Run}
 use Rattle.runs.specs.declared.Fed.{Fed}
+use Rattle.runs.proofs.Commands.{long}
 use Rattle.runs.proofs.Inverse.{said-is, is-said}
 use Rattle.runs.proofs.Carry.{after-append, said-append}
-use Rattle.runs.proofs.Output.{whole, carried, blocks, blocks-said}
+use Rattle.runs.proofs.Output.{whole, carried, blocks, blocks-said, feed-within, feed-moves, feed-stops}
+use Rattle.runs.proofs.Facts as facts
 use Rattle.claims.proofs.Calls.{ReadNumber, Fresh, Feed, Close}
 
 -- some calls of `feed`, each with the run that the last one left, have taken this input, written these words and left this run
@@ -44,12 +52,29 @@ pub record Text : Type 0 where
   pub parts : (run : Run) (s t : List ℕ) →
       (runOf (after (carryOf (runOf (after (carryOf run) s))) t) ≡ runOf (after (carryOf run) (s ++ t)))
       × (words-of run s ++ words-of (runOf (after (carryOf run) s)) t ≡ words-of run (s ++ t))
+  -- with room for a row, at most 71 bytes long, `feed` takes some of what it is given, so that a loop that feeds what is left ends
+  pub moves : (c : Feed) → 71 ≤ length (now (c .args .1 .1 .0)) → 0 < length (now (c .args .1 .0)) → (0 < c .answer .used) × (c .answer .used ≤ length (now (c .args .1 .0)))
+  -- and it leaves something only where less room than that is left
+  pub stops : (c : Feed) → c .answer .used < length (now (c .args .1 .0)) → length (now (c .args .1 .1 .0)) < c .answer .wrote + 71
   -- lines are numbered one by one, up to the last number of 64 bits
   pub numbers : (n : ℕ) → n < 18446744073709551615 → next n ≡ n + 1
   pub says : (s : List ℕ) (c : Command) → (c ≡ Bad → ⊥) → readLine s ≡ c → s ≡ written c
   pub said : (c : Command) → Writable c → readLine (written c) ≡ c
   pub reads : (c : ReadNumber) (n : ℕ) → now (c .args .0) ≡ decimal n → n ≤ c .args .1 .0 → c .answer ≡ Value n
   pub writes : (c : ReadNumber) (n : ℕ) → c .answer ≡ Value n → (decimal n ≡ now (c .args .0)) × (n ≤ c .args .1 .0)
+  -- 01 TEXT.1
+  -- each line, typed, says its command, and the command does what its call does
+  pub commands : map readLine typedLines ≡ typedCommands
+  pub calls : (s : Transfer) → map (λ (c : Command). obeyed c s) typedCommands ≡ map (λ (c : Call). stepOf limit c s) typedCalls
+  -- 01 TEXT.2
+  -- each answer has its word, typed, and a row its columns in their order
+  pub words : map wordOf typedAnswers ≡ typedWords
+  pub columns : rowOf 7 Answer.Done 11 12 13 14 ≡ typedRow
+  -- 01 TEXT.4 01 TEXT.5
+  -- other lines, typed, and every line over 255 bytes, are refused with 2
+  pub others : map readLine otherLines ≡ replicate 13 Bad
+  pub long : (s : List ℕ) → 255 < length s → readLine s ≡ Bad
+  pub bad : (s : Transfer) → obeyed Bad s ≡ refused s Refusal.Unlisted
 
 -- what one call does, by its promise
 module _ {run : Run} {block out out' : List ℕ} {r : Fed} (f : Feeds run block out r out') where
@@ -98,9 +123,18 @@ text = record {
       ∙ ap (λ (d : Carry). said fresh input ++ said d (closing (length (after fresh input .begun)))) (carried (after fresh input))
       ∙ whole input;
   parts = λ run s t. (blocks run s t, blocks-said run s t);
+  moves = λ c room some. (feed-moves (c .met) room some, feed-within (c .met));
+  stops = λ c left. feed-stops (c .met) left;
   numbers = λ n h. ap (λ (t : Bool). cond t (n + 1) n) (lt-ltb n 18446744073709551615 h);
   says = λ s c fine e. said-is c fine s e;
   said = is-said;
   reads = λ c n e h. c .met ∙ ap (readNumber (c .args .1 .0)) e ∙ read-written (c .args .1 .0) n h;
   writes = λ c n e. written-read (c .args .1 .0) (now (c .args .0)) n (sym (c .met) ∙ e);
+  commands = facts.commands;
+  calls = facts.calls;
+  words = facts.words;
+  columns = facts.columns;
+  others = facts.others;
+  long = long;
+  bad = facts.bad;
 }

@@ -6,3 +6,4 @@ pub mod Carry
 pub mod Turns
 pub mod Output
 pub mod Listing
+pub mod Facts

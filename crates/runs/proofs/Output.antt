@@ -3,13 +3,13 @@
 use Prim.Native.Nat.{ℕ, suc, _+_, _-_, _≤_, _<_}
 use mathlib.Core.Bool.{Bool, true, false, cond, _&&_}
 use mathlib.Core.List.{List, [], _∷_, _++_, append-nil, append-assoc}
-use mathlib.Core.Path.{_≡_, refl, sym, ap, _∙_}
+use mathlib.Core.Path.{_≡_, refl, sym, ap, _∙_, subst}
 use native.Mathlib.Omega.{arith}
-use borrow.Author.Tests.{eqb-true, ne-eqb, le-ltb}
+use borrow.Author.Tests.{eqb-true, ltb-true, ne-eqb, le-ltb}
 use lib.Dec.{eqb, ltb}
-use lib.ListN.{length, take, drop, replicate, length-take, length-drop, take-append-drop}
+use lib.ListN.{length, take, drop, replicate, length-take, length-drop, length-append, take-append-drop}
 use lib.Seq.{take-append-seam, length-take-le, drop-drop}
-use Rattle.laws.proofs.Bools.{and-false, by-test}
+use Rattle.laws.proofs.Bools.{and-right, and-false, by-test}
 use Rattle.laws.proofs.Lists.{lent-tail}
 use Rattle.lines.specs.Parts.{lf, linesOf}
 use Rattle.lines.proofs.Parts.{free, first-part, one-line, free-end}
@@ -83,29 +83,47 @@ moves : (room : ℕ) (c : Carry) (s : List ℕ) → longestRow ≤ room → 0 < 
 moves room c [] h k = absurd (omega arith)
 moves room c (b ∷ s) h k = let go : eqb b lf && ltb room longestRow ≡ false = and-false (eqb b lf) (le-ltb room longestRow h) in rw go (omega arith)
 
+-- and it stops before the end only where there is no room for a row
+stops-full : (room : ℕ) (c : Carry) (s : List ℕ) → takes room c s < length s → room < length (said c (take (takes room c s) s)) + longestRow
+stops-full room c [] = λ h. absurd (omega arith)
+stops-full room c (b ∷ s) =
+    by-test (λ (n : ℕ). n < suc (length s) → room < length (said c (take n (b ∷ s))) + longestRow) (eqb b lf && ltb room longestRow)
+    (λ e h. ltb-true room longestRow (and-right (eqb b lf) _ e))
+    (λ e h. let rest = stops-full (room - length (saidAt c b)) (afterByte c b) s (omega arith) in simp length-append (omega arith))
+
+-- what `feed` promises, of any block and any room
+module _ {run : Run} {block out : List ℕ} {r : Fed} {out' : List ℕ} (f : Feeds run block out r out') where
+  taken : r .used ≡ takes (length out) (carryOf run) block
+  taken = ap (λ (x : Fed). x .used) (f .answer) ∙ length-take-le (takes (length out) (carryOf run) block) block (takes-le (length out) (carryOf run) block)
+
+  pub feed-within : r .used ≤ length block
+  feed-within = omega (arith, taken, takes-le (length out) (carryOf run) block)
+
+  pub feed-moves : longestRow ≤ length out → 0 < length block → 0 < r .used
+  feed-moves l k = omega (arith, taken, moves (length out) (carryOf run) block l k)
+
+  pub feed-stops : r .used < length block → length out < r .wrote + longestRow
+  feed-stops h =
+      let full = stops-full (length out) (carryOf run) block (omega (arith, taken)) in
+      omega (arith, ap (λ (x : Fed). x .wrote) (f .answer))
+
 -- a turn of a loop that feeds a whole input, which a run has taken up to a place
 module _ (run : Run) (input out : List ℕ) (from : ℕ) (r : Fed) (out' : List ℕ) (h : from ≤ length input) (f : Feeds run (take (length input - from) (drop from input)) out r out') where
   abbrev n : ℕ
   n = takes (length out) (carryOf run) (drop from input)
 
-  part : take (length input - from) (drop from input) ≡ drop from input
-  part = lent-tail from input
-
-  fed : r ≡ fedOf run (take n (drop from input))
-  fed = f .answer ∙ ap (λ (s : List ℕ). fedOf run (takenOf run s out)) part
-
-  used : r .used ≡ n
-  used = ap (λ (x : Fed). x .used) fed ∙ length-take-le n (drop from input) (takes-le (length out) (carryOf run) (drop from input))
+  rest : Feeds run (drop from input) out r out'
+  rest = subst (λ (s : List ℕ). Feeds run s out r out') (lent-tail from input) f
 
   pub turn-within : from + r .used ≤ length input
-  turn-within = omega (arith, used, takes-le (length out) (carryOf run) (drop from input), length-drop from input)
+  turn-within = omega (arith, feed-within rest, length-drop from input)
 
   pub turn-moves : longestRow ≤ length out → from < length input → 0 < r .used
-  turn-moves l k = omega (arith, used, moves (length out) (carryOf run) (drop from input) l (omega (arith, length-drop from input)))
+  turn-moves l k = feed-moves rest l (omega (arith, length-drop from input))
 
   pub turn-carries : after (carryOf run) (drop from input) ≡ after (carryOf (r .run)) (drop (from + r .used) input)
   turn-carries =
       ap (after (carryOf run)) (sym (take-append-drop n (drop from input)))
       ∙ after-append (carryOf run) (take n (drop from input)) (drop n (drop from input))
-      ∙ ap (λ (c : Carry). after c (drop n (drop from input))) (sym (ap (λ (x : Fed). carryOf (x .run)) fed ∙ carried (after (carryOf run) (take n (drop from input)))))
-      ∙ ap (after (carryOf (r .run))) (drop-drop n from input ∙ ap (λ (k : ℕ). drop (from + k) input) (sym used))
+      ∙ ap (λ (c : Carry). after c (drop n (drop from input))) (sym (ap (λ (x : Fed). carryOf (x .run)) (rest .answer) ∙ carried (after (carryOf run) (take n (drop from input)))))
+      ∙ ap (after (carryOf (r .run))) (drop-drop n from input ∙ ap (λ (k : ℕ). drop (from + k) input) (sym (taken rest)))

@@ -5,3 +5,4 @@ pub mod Rows
 pub mod Feed
 pub mod Output
 pub mod Listing
+pub mod Typed
