@@ -10,6 +10,7 @@ pub mod Links
 pub mod LinkRefusals
 mod Grounds
 pub mod Ports
+pub mod Printed
 pub mod Priority
 pub mod Refusals
 pub mod Rows

@@ -7,3 +7,4 @@ pub mod Turns
 pub mod Output
 pub mod Listing
 pub mod Facts
+pub mod Told

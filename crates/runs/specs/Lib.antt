@@ -6,3 +6,5 @@ pub mod Feed
 pub mod Output
 pub mod Listing
 pub mod Typed
+pub mod Turns
+pub mod Told

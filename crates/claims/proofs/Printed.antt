@@ -1,0 +1,71 @@
+-- Demand 3 over what `readrun` reads and prints alone, sentence by sentence: B and N are those of the START line as typed, a frame lies
+-- between the read offsets of two lines, the answers are the lines of input that were not refused, and the balance point is a column.
+-- Assumes nothing.
+use Prim.Native.Nat.{ℕ, _+_, _≤_, _<_}
+use mathlib.Core.Bool.{true, false}
+use mathlib.Core.List.{List, [], _∷_, _++_, map}
+use mathlib.Core.Path.{_≡_, ap, _∙_}
+use lib.ListN.{length}
+use Rattle.lines.specs.Parts.{linesOf}
+use Rattle.transfer.specs.History.{Frame, View, sent, view, Covered}
+use Rattle.transfer.specs.declared.Answer.{Answer}
+use Rattle.runs.specs.Commands.{readLine}
+use Rattle.runs.specs.Output.{outputOf}
+use Rattle.runs.specs.Turns.{Turn, turnsOf, shownBytes}
+use Rattle.runs.specs.Told.{Tale, untold, adds, told}
+use Rattle.runs.proofs.Told.{reads, prints, Holds, told-holds, Leads, told-leads}
+
+-- a place in a run: the lines read and printed before it, and those behind it
+pub record Place : Type 0 where
+  pub input : List ℕ
+  pub past : List Turn
+  pub rest : List Turn
+  pub are : turnsOf input ≡ past ++ rest
+
+-- what the lines before it tell, and what their history says of the frames
+abbrev tale : Place → Tale
+tale p = told untold (p .past)
+
+abbrev seen : Place → View
+seen p = view (tale p .history)
+
+-- 01 TEXT.2 01 READ.3 01 READ.7
+pub record Printed : Type 0 where
+  -- the lines are those of the input, and those of the output
+  pub reads : (input : List ℕ) → map (λ (t : Turn). t .said) (turnsOf input) ≡ map readLine (linesOf input)
+  pub prints : (input : List ℕ) → outputOf input ≡ shownBytes (turnsOf input)
+  -- "the balance point lies within the request;
+  pub within : (p : Place) → (tale p .offset ≤ tale p .balance) × (tale p .balance ≤ tale p .offset + tale p .count)
+  -- every requested byte before it was in a frame whose ACK was reported, by the history of frames and answers;
+  pub sure : (p : Place) (x : ℕ) → tale p .offset ≤ x → x < tale p .balance → Covered x (seen p .acked)
+  -- each resend begins at the balance point;
+  pub resend : (p : Place) (t : Turn) (more : List Turn) (f : Frame) → p .rest ≡ t ∷ more → adds (tale p) t ≡ sent f ∷ [] → seen p .attempt ≡ [] → f .at ≡ tale p .balance
+  -- if frames were sent in the present attempt and all were ACKed, it stands at the end of the last;
+  pub settled : (p : Place) (f : Frame) (fs : List Frame) → seen p .attempt ≡ f ∷ fs → seen p .good ≡ seen p .attempt → tale p .balance ≡ f .at + f .len
+  -- "delivered" is answered only once every requested byte was ACKed;
+  pub delivers : (p : Place) (t : Turn) (more : List Turn) → p .rest ≡ t ∷ more → t .shown .word ≡ Answer.Done → (x : ℕ) → tale p .offset ≤ x → x < tale p .offset + tale p .count → Covered x (view (adds (tale p) t ++ tale p .history) .acked)
+  -- at most 64 frames are unanswered.
+  pub few : (p : Place) → length (seen p .waiting) ≤ 64
+  -- Frames and answers are never matched by a short number."
+  pub counted : (p : Place) → tale p .going ≡ true → tale p .unanswered ≡ length (seen p .waiting)
+  pub over : (p : Place) → tale p .going ≡ false → tale p .unanswered ≡ 0
+
+all : (p : Place) → Holds (tale p)
+all p = told-holds (p .input) (p .past) (p .rest) (p .are)
+
+here : (p : Place) (t : Turn) (more : List Turn) → p .rest ≡ t ∷ more → Leads (tale p) t
+here p t more e = told-leads (p .input) (p .past) more t (p .are ∙ ap (λ (ts : List Turn). p .past ++ ts) e)
+
+pub printed : Printed
+printed = record {
+  reads = reads;
+  prints = prints;
+  within = λ p. all p .within;
+  sure = λ p. all p .sure;
+  resend = λ p t more f e. here p t more e .resend f;
+  settled = λ p. all p .settled;
+  delivers = λ p t more e. here p t more e .delivers;
+  few = λ p. all p .few;
+  counted = λ p. all p .counted;
+  over = λ p. all p .over;
+}

@@ -1,0 +1,274 @@
+-- What the lines tell is what the transfer did: each line leaves the transfer and the tale in agreement, so that demand 3 of the one is
+-- demand 3 of the other. Assumes nothing.
+use Prim.Native.Nat.{ℕ, _+_, _-_, _≤_, _<_}
+use mathlib.Core.Bool.{true, false}
+use mathlib.Core.List.{List, [], _∷_, _++_, map}
+use mathlib.Core.Path.{_≡_, refl, sym, ap, _∙_, subst}
+use native.Mathlib.Omega.{arith}
+use borrow.Author.Tests.{not-false}
+use lib.Dec.{eqb, leb}
+use lib.ListN.{length}
+use Rattle.laws.proofs.Bools.{by-test}
+use Rattle.refusals.proofs.Causes.{by-causes}
+use Rattle.refusals.specs.Causes.{refuse}
+use Rattle.refusals.specs.declared.Refusal.{Refusal}
+use Rattle.transfer.specs.Rules.{before}
+use Rattle.transfer.specs.Steps.{limit, unfinished, draining, say, refused, started, framed, frameLength, answered, allSent, settled, drained, acked, naked, dropped, ended}
+use Rattle.transfer.specs.Steps.{startCauses, frameCauses, answerCauses, endCauses, startStep, frameStep, ackStep, nakStep, dropStep, endStep}
+use Rattle.transfer.specs.Calls.{Call, start, frame, ack, nak, timeout, lost, nexus, cancel, stepOf}
+use Rattle.transfer.specs.History.{Frame as Sent, Entry, sent, isRefused, entries, view, Covered}
+use Rattle.transfer.specs.Log.{nextFrame, entriesOf}
+use Rattle.transfer.specs.Demand.{Demand3}
+use Rattle.transfer.specs.declared.Transfer.{Transfer}
+use Rattle.transfer.specs.declared.Stepped.{Stepped}
+use Rattle.transfer.specs.declared.Answer.{Answer}
+use Rattle.transfer.proofs.Calls.{some-left}
+use Rattle.transfer.proofs.Balance.{Inv, keeps, at-first}
+use Rattle.transfer.proofs.Demand.{demand, apart}
+use Rattle.lines.specs.Parts.{linesOf}
+use Rattle.runs.specs.Commands.{readLine, obeyed}
+use Rattle.runs.specs.Feed.{next}
+use Rattle.runs.specs.Rows.{row}
+use Rattle.runs.specs.Output.{rows, outputOf}
+use Rattle.runs.specs.Turns.{Turn, turnOf, turns, turnsOf, shownBytes}
+use Rattle.runs.specs.Told.{Tale, untold, byStart, adds, asked, goesOn, tell, told}
+use Rattle.runs.specs.declared.Command.{Command}
+use Rattle.runs.specs.declared.Command.the-variants.{Start, Frame, Ack, Nak, Timeout, Lost, Nexus, Cancel, Bad}
+
+-- ---- the turns are the input's commands, and their bytes are the output
+
+saying : (k : ℕ) (s : Transfer) (ls : List (List ℕ)) → map (λ (t : Turn). t .said) (turns k s ls) ≡ map readLine ls
+saying k s [] = refl
+saying k s (l ∷ ls) = ap (λ (cs : List Command). readLine l ∷ cs) (saying (next k) (obeyed (readLine l) s .state) ls)
+
+pub reads : (input : List ℕ) → map (λ (t : Turn). t .said) (turnsOf input) ≡ map readLine (linesOf input)
+reads input = saying 0 before (linesOf input)
+
+shown : (k : ℕ) (s : Transfer) (ls : List (List ℕ)) → rows k s ls ≡ shownBytes (turns k s ls)
+shown k s [] = refl
+shown k s (l ∷ ls) = ap (λ (b : List ℕ). row (next k) (obeyed (readLine l) s) ++ b) (shown (next k) (obeyed (readLine l) s .state) ls)
+
+pub prints : (input : List ℕ) → outputOf input ≡ shownBytes (turnsOf input)
+unfolding outputOf
+prints input = shown 0 before (linesOf input)
+
+-- ---- the request and the words
+
+-- only START asks, and the words say whether the transfer goes on
+pub record Follows (s : Transfer) (b n : ℕ) (st : Stepped) : Type 0 where
+  pub offset : b ≡ st .state .offset
+  pub count : n ≡ st .state .count
+  pub going : goesOn (st .answer) (unfinished (s .phase)) ≡ unfinished (st .state .phase)
+
+module _ (bound : ℕ) (s : Transfer) where
+  abbrev Stays : Stepped → Type 0
+  Stays = Follows s (s .offset) (s .count)
+
+  same : (k : Refusal) → Stays (refused s k)
+  same k = record { offset = refl; count = refl; going = refl }
+
+  on-drain : Stays (drained (answered s))
+  unfolding drained
+  on-drain = by-test Stays (eqb (s .unanswered - 1) 0) (λ t. record { offset = refl; count = refl; going = refl }) (λ t. record { offset = refl; count = refl; going = refl })
+
+  on-ack : unfinished (s .phase) ≡ true → Stays (acked (answered s))
+  unfolding acked settled
+  on-ack u =
+      by-test Stays (draining (s .phase)) (λ d. on-drain)
+      (λ d. by-test Stays (eqb (s .unanswered - 1) 0)
+      (λ t. by-test Stays (allSent s) (λ q. record { offset = refl; count = refl; going = refl }) (λ q. record { offset = refl; count = refl; going = sym u }))
+      (λ t. record { offset = refl; count = refl; going = sym u }))
+
+  on-nak : Stays (naked (answered s))
+  unfolding naked
+  on-nak = by-test Stays (leb (s .resends) (s .used)) (λ t. record { offset = refl; count = refl; going = refl }) (λ t. on-drain)
+
+  on-drop : Stays (dropped s)
+  unfolding dropped
+  on-drop = by-test Stays (leb (s .resends) (s .used)) (λ t. record { offset = refl; count = refl; going = refl }) (λ t. record { offset = refl; count = refl; going = refl })
+
+  on-answer : (st : Stepped) → (unfinished (s .phase) ≡ true → Stays st) → Stays (refuse (refused s) (answerCauses bound s) st)
+  on-answer st h = by-causes Stays (refused s) same (answerCauses bound s) st (λ off. h (some-left s (off .1 .0) .0))
+
+  on-end : Stays (endStep bound s)
+  unfolding endStep
+  on-end = by-causes Stays (refused s) same (endCauses bound s) (ended s) (λ off. record { offset = refl; count = refl; going = refl })
+
+  stays-frame : Stays (stepOf bound frame s)
+  unfolding stepOf frameStep
+  stays-frame = by-causes Stays (refused s) same (frameCauses bound s) (framed (frameLength s) s) (λ off. record { offset = refl; count = refl; going = sym (not-false _ (off .1 .0)) })
+
+  stays-ack : Stays (stepOf bound ack s)
+  unfolding stepOf ackStep
+  stays-ack = on-answer (acked (answered s)) on-ack
+
+  stays-nak : Stays (stepOf bound nak s)
+  unfolding stepOf nakStep
+  stays-nak = on-answer (naked (answered s)) (λ u. on-nak)
+
+  stays-timeout : Stays (stepOf bound timeout s)
+  unfolding stepOf dropStep
+  stays-timeout = on-answer (dropped s) (λ u. on-drop)
+
+  stays-lost : Stays (stepOf bound lost s)
+  unfolding stepOf dropStep
+  stays-lost = on-answer (dropped s) (λ u. on-drop)
+
+  stays-nexus : Stays (stepOf bound nexus s)
+  unfolding stepOf
+  stays-nexus = on-end
+
+  stays-cancel : Stays (stepOf bound cancel s)
+  unfolding stepOf
+  stays-cancel = on-end
+
+-- ---- a line keeps the tale in agreement with the transfer
+
+pub record Agree (s : Transfer) (w : Tale) : Type 0 where
+  pub offset : w .offset ≡ s .offset
+  pub count : w .count ≡ s .count
+  pub going : w .going ≡ unfinished (s .phase)
+  pub read : w .read ≡ s .read
+  pub balance : w .balance ≡ s .balance
+  pub unanswered : w .unanswered ≡ s .unanswered
+  pub sound : Inv limit s (view (w .history))
+
+-- demand 3 of the tale: of what was told, and of one line more
+pub record Holds (w : Tale) : Type 0 where
+  pub within : (w .offset ≤ w .balance) × (w .balance ≤ w .offset + w .count)
+  pub sure : (x : ℕ) → w .offset ≤ x → x < w .balance → Covered x (view (w .history) .acked)
+  pub settled : (f : Sent) (fs : List Sent) → view (w .history) .attempt ≡ f ∷ fs → view (w .history) .good ≡ view (w .history) .attempt → w .balance ≡ f .at + f .len
+  pub few : length (view (w .history) .waiting) ≤ limit
+  pub counted : w .going ≡ true → w .unanswered ≡ length (view (w .history) .waiting)
+  pub over : w .going ≡ false → w .unanswered ≡ 0
+
+pub record Leads (w : Tale) (t : Turn) : Type 0 where
+  pub resend : (f : Sent) → adds w t ≡ sent f ∷ [] → view (w .history) .attempt ≡ [] → f .at ≡ w .balance
+  pub delivers : t .shown .word ≡ Answer.Done → (x : ℕ) → w .offset ≤ x → x < w .offset + w .count → Covered x (view (adds w t ++ w .history) .acked)
+
+pub holds : {s : Transfer} {w : Tale} → Agree s w → Holds w
+holds {s} {w} a =
+    let d = demand limit s (w .history) (a .sound) frame in
+    record {
+      within = omega (arith, d .within, a .offset, a .count, a .balance);
+      sure = λ x l u. d .sure x (omega (arith, a .offset)) (omega (arith, a .balance));
+      settled = λ f fs p q. a .balance ∙ d .settled f fs p q;
+      few = d .few;
+      counted = λ g. a .unanswered ∙ d .counted (sym (a .going) ∙ g);
+      over = λ g. a .unanswered ∙ d .over (sym (a .going) ∙ g);
+    }
+
+-- a line answered by st, and what it leaves
+pub record Step (k : ℕ) (c : Command) (st : Stepped) (w : Tale) : Type 0 where
+  pub agree : Agree (st .state) (tell w (turnOf k c st))
+  pub leads : Leads w (turnOf k c st)
+
+module _ (k : ℕ) (s : Transfer) (w : Tale) (a : Agree s w) where
+  -- of a command that is a call, where the line tells what the history has, and asks for what the transfer has
+  by-call : (c : Command) (call : Call) →
+      let st = stepOf limit call s in
+      let t = turnOf k c st in
+      entriesOf limit call s ≡ adds w t → Follows s (asked (λ b n. b) (w .offset) t) (asked (λ b n. n) (w .count) t) st → Step k c st w
+  by-call c call tells asks =
+      let h = w .history in
+      let st = stepOf limit call s in
+      let d = demand limit s h (a .sound) call in
+      record {
+        agree =
+            record {
+              offset = asks .offset;
+              count = asks .count;
+              going = ap (goesOn (st .answer)) (a .going) ∙ asks .going;
+              read = refl;
+              balance = refl;
+              unanswered = refl;
+              sound = subst (λ (es : List Entry). Inv limit (st .state) (view (es ++ h))) tells (keeps limit s h (a .sound) call);
+            };
+        leads =
+            record {
+              resend = λ f e none. d .resend f (tells ∙ e) none ∙ sym (a .balance);
+              delivers = λ e x l u. subst (λ (es : List Entry). Covered x (view (es ++ h) .acked)) tells (d .delivered e x (omega (arith, a .offset)) (omega (arith, a .offset, a .count)));
+            };
+      }
+
+  -- a line that asks for nothing, whatever its word
+  by-stay : (c : Command) (call : Call) → ((which : ℕ → ℕ → ℕ) (x : ℕ) → byStart which x c ≡ x) → let st = stepOf limit call s in entriesOf limit call s ≡ adds w (turnOf k c st) → Stays limit s st → Step k c st w
+  by-stay c call quiet tells stays = by-call c call tells (record { offset = none (λ b n. b) (w .offset) ∙ a .offset ∙ stays .offset; count = none (λ b n. n) (w .count) ∙ a .count ∙ stays .count; going = stays .going })
+    where
+      none : (which : ℕ → ℕ → ℕ) (x : ℕ) → asked which x (turnOf k c (stepOf limit call s)) ≡ x
+      none which x = by-test (λ (y : ℕ). y ≡ x) (isRefused (stepOf limit call s .answer)) (λ t. refl) (λ t. quiet which x)
+
+  -- a frame lies between the read offsets
+  frame-told : entriesOf limit frame s ≡ adds w (turnOf k Frame (stepOf limit frame s))
+  unfolding stepOf frameStep
+  frame-told =
+      by-causes (λ (st : Stepped). entries frame (nextFrame s) (st .answer) ≡ adds w (turnOf k Frame st)) (refused s) (λ r. refl) (frameCauses limit s) (framed (frameLength s) s)
+      (λ off.
+      let len : frameLength s ≡ s .read + frameLength s - w .read = omega (arith, a .read) in
+      λ i. sent (record { at = sym (a .read) i; len = len i }) ∷ [])
+
+  start-asks : (b n m r : ℕ) → let st = stepOf limit (start b n m r) s in let t = turnOf k (Start b n m r) st in Follows s (asked (λ b n. b) (w .offset) t) (asked (λ b n. n) (w .count) t) st
+  unfolding stepOf startStep
+  start-asks b n m r =
+      by-causes (λ (st : Stepped). let t = turnOf k (Start b n m r) st in Follows s (asked (λ b n. b) (w .offset) t) (asked (λ b n. n) (w .count) t) st) (refused s)
+      (λ j. record { offset = a .offset; count = a .count; going = refl }) (startCauses limit b n m r s) (say Answer.Ok (started b n m r))
+      (λ off. record { offset = refl; count = refl; going = refl })
+
+  bad-step : Step k Bad (refused s Refusal.Unlisted) w
+  bad-step =
+      record {
+        agree = record { offset = a .offset; count = a .count; going = a .going; read = refl; balance = refl; unanswered = refl; sound = a .sound };
+        leads = record { resend = λ f e none. absurd (apart (cc)); delivers = λ e. absurd (apart (cc)) };
+      }
+
+  pub step : (c : Command) → Step k c (obeyed c s) w
+  unfolding obeyed
+  step (Start b n m r) = by-call (Start b n m r) (start b n m r) refl (start-asks b n m r)
+  step Frame = by-stay Frame frame (λ which x. refl) frame-told (stays-frame limit s)
+  step Ack = by-stay Ack ack (λ which x. refl) refl (stays-ack limit s)
+  step Nak = by-stay Nak nak (λ which x. refl) refl (stays-nak limit s)
+  step Timeout = by-stay Timeout timeout (λ which x. refl) refl (stays-timeout limit s)
+  step Lost = by-stay Lost lost (λ which x. refl) refl (stays-lost limit s)
+  step Nexus = by-stay Nexus nexus (λ which x. refl) refl (stays-nexus limit s)
+  step Cancel = by-stay Cancel cancel (λ which x. refl) refl (stays-cancel limit s)
+  step Bad = bad-step
+
+-- ---- any place in a run
+
+-- where the turns `past` have gone, and `rest` are to come, from the tale w on
+pub record Stands (w : Tale) (past rest : List Turn) : Type 0 where
+  pub number : ℕ
+  pub state : Transfer
+  pub lines : List (List ℕ)
+  pub are : rest ≡ turns number state lines
+  pub agree : Agree state (told w past)
+
+stand : (k : ℕ) (s : Transfer) (ls : List (List ℕ)) (w : Tale) → Agree s w → (past rest : List Turn) → turns k s ls ≡ past ++ rest → Stands w past rest
+stand k s ls w a [] rest e = record { number = k; state = s; lines = ls; are = sym e; agree = a }
+stand k s [] w a (t ∷ past) rest e = absurd (apart (cc))
+stand k s (l ∷ ls) w a (t ∷ past) rest e =
+    let st = obeyed (readLine l) s in
+    let this : turnOf k (readLine l) st ≡ t = cc in
+    let more : turns (next k) (st .state) ls ≡ past ++ rest = cc in
+    let after = subst (λ (u : Turn). Agree (st .state) (tell w u)) this (step k s w a (readLine l) .agree) in
+    let x = stand (next k) (st .state) ls (tell w t) after past rest more in
+    record { number = x .number; state = x .state; lines = x .lines; are = x .are; agree = x .agree }
+
+first-agree : Agree before untold
+first-agree = record { offset = refl; count = refl; going = refl; read = refl; balance = refl; unanswered = refl; sound = at-first limit }
+
+-- DEMAND 3, of what the lines told at any place
+pub told-holds : (input : List ℕ) (past rest : List Turn) → turnsOf input ≡ past ++ rest → Holds (told untold past)
+told-holds input past rest e = holds (stand 0 before (linesOf input) untold first-agree past rest e .agree)
+
+-- and of the line that comes there
+pub told-leads : (input : List ℕ) (past rest : List Turn) (t : Turn) → turnsOf input ≡ past ++ (t ∷ rest) → Leads (told untold past) t
+told-leads input past rest t e =
+    let x = stand 0 before (linesOf input) untold first-agree past (t ∷ rest) e in
+    by (x .number) (x .state) (x .lines) (x .are) (x .agree)
+  where
+    by : (k : ℕ) (s : Transfer) (ls : List (List ℕ)) → t ∷ rest ≡ turns k s ls → Agree s (told untold past) → Leads (told untold past) t
+    by k s [] q a = absurd (apart (cc))
+    by k s (l ∷ ls) q a =
+        let this : turnOf k (readLine l) (obeyed (readLine l) s) ≡ t = cc in
+        subst (Leads (told untold past)) this (step k s (told untold past) a (readLine l) .leads)

@@ -1,0 +1,85 @@
+-- Document 01, 'Read transfer': what the lines of a run tell one who sees these alone: the request as it was typed, the columns of the
+-- last line, and the history of frames and answers. A frame lies between the read offsets of two lines. No state is read here.
+-- Assumes nothing.
+use Prim.Native.Nat.{ℕ, _-_}
+use mathlib.Core.Bool.{Bool, true, false, cond}
+use mathlib.Core.List.{List, [], _∷_, _++_}
+use Rattle.transfer.specs.History.{Entry, started, sent, acked, naked, timedOut, wasLost, ended, isRefused}
+use Rattle.transfer.specs.declared.Answer.{Answer}
+use Rattle.runs.specs.Turns.{Turn}
+use Rattle.runs.specs.declared.Command.{Command}
+use Rattle.runs.specs.declared.Command.the-variants.{Start, Frame, Ack, Nak, Timeout, Lost, Nexus, Cancel, Bad}
+
+pub record Tale : Type 0 where
+  -- B and N of the last START that was not refused
+  pub offset : ℕ
+  pub count : ℕ
+  -- whether the transfer that it began goes on
+  pub going : Bool
+  -- columns of the last line
+  pub read : ℕ
+  pub balance : ℕ
+  pub unanswered : ℕ
+  -- the latest first
+  pub history : List Entry
+
+-- before any line
+abbrev pub untold : Tale
+untold = record { offset = 0; count = 0; going = false; read = 0; balance = 0; unanswered = 0; history = [] }
+
+-- a START's B and N, or what was there
+abbrev pub byStart : {A : Type 0} → (ℕ → ℕ → A) → A → Command → A
+byStart f a (Start b n m r) = f b n
+byStart f a Frame = a
+byStart f a Ack = a
+byStart f a Nak = a
+byStart f a Timeout = a
+byStart f a Lost = a
+byStart f a Nexus = a
+byStart f a Cancel = a
+byStart f a Bad = a
+
+-- what a line tells that was not refused, where the read offset was `from` and is `to`
+abbrev pub entryTold : Command → ℕ → ℕ → List Entry
+entryTold (Start b n m r) from to = started ∷ []
+entryTold Frame from to = sent (record { at = from; len = to - from }) ∷ []
+entryTold Ack from to = acked ∷ []
+entryTold Nak from to = naked ∷ []
+entryTold Timeout from to = timedOut ∷ []
+entryTold Lost from to = wasLost ∷ []
+entryTold Nexus from to = ended ∷ []
+entryTold Cancel from to = ended ∷ []
+entryTold Bad from to = []
+
+-- done, fail and end end a transfer; a refusal changes nothing
+abbrev pub goesOn : Answer → Bool → Bool
+goesOn Answer.Ok going = true
+goesOn Answer.Sent going = true
+goesOn Answer.Drain going = true
+goesOn Answer.Retry going = true
+goesOn Answer.Done going = false
+goesOn Answer.Fail going = false
+goesOn Answer.End going = false
+goesOn (Answer.Refused k) going = going
+
+abbrev pub adds : Tale → Turn → List Entry
+adds w t = cond (isRefused (t .shown .word)) [] (entryTold (t .said) (w .read) (t .shown .read))
+
+abbrev pub asked : (ℕ → ℕ → ℕ) → ℕ → Turn → ℕ
+asked which old t = cond (isRefused (t .shown .word)) old (byStart which old (t .said))
+
+abbrev pub tell : Tale → Turn → Tale
+tell w t = record {
+  offset = asked (λ b n. b) (w .offset) t;
+  count = asked (λ b n. n) (w .count) t;
+  going = goesOn (t .shown .word) (w .going);
+  read = t .shown .read;
+  balance = t .shown .balance;
+  unanswered = t .shown .unanswered;
+  history = adds w t ++ w .history;
+}
+
+-- what some turns tell, the first first
+abbrev pub told : Tale → List Turn → Tale
+told w [] = w
+told w (t ∷ ts) = told (tell w t) ts

@@ -1,0 +1,34 @@
+-- Document 01, 'Read transfer': the lines of a run of `readrun` side by side: what each line of input says, and the six columns of the
+-- line of output that it gives. Assumes nothing.
+use Prim.Native.Nat.{ℕ}
+use mathlib.Core.List.{List, [], _∷_, _++_}
+use Rattle.lines.specs.Parts.{linesOf}
+use Rattle.transfer.specs.Rules.{before}
+use Rattle.transfer.specs.Examples.{Line, line}
+use Rattle.transfer.specs.declared.Transfer.{Transfer}
+use Rattle.transfer.specs.declared.Stepped.{Stepped}
+use Rattle.runs.specs.Commands.{readLine, obeyed}
+use Rattle.runs.specs.Rows.{rowOf}
+use Rattle.runs.specs.Feed.{next}
+use Rattle.runs.specs.declared.Command.{Command}
+
+pub record Turn : Type 0 where
+  pub said : Command
+  pub shown : Line
+
+-- what a command gives behind k lines
+abbrev pub turnOf : ℕ → Command → Stepped → Turn
+turnOf k c step = record { said = c; shown = line (next k) (step .answer) (step .state .read) (step .state .balance) (step .state .unanswered) (step .state .used) }
+
+-- the turns of some lines, behind k others
+abbrev pub turns : ℕ → Transfer → List (List ℕ) → List Turn
+turns k s [] = []
+turns k s (l ∷ ls) = turnOf k (readLine l) (obeyed (readLine l) s) ∷ turns (next k) (obeyed (readLine l) s .state) ls
+
+abbrev pub turnsOf : List ℕ → List Turn
+turnsOf input = turns 0 before (linesOf input)
+
+-- the lines of output, as bytes
+abbrev pub shownBytes : List Turn → List ℕ
+shownBytes [] = []
+shownBytes (t ∷ ts) = rowOf (t .shown .number) (t .shown .word) (t .shown .read) (t .shown .balance) (t .shown .unanswered) (t .shown .used) ++ shownBytes ts
