@@ -12,8 +12,8 @@ use Rattle.transfer.specs.declared.Answer.{Answer}
 use Rattle.runs.specs.Commands.{readLine}
 use Rattle.runs.specs.Output.{outputOf}
 use Rattle.runs.specs.Turns.{Turn, turnsOf, shownBytes}
-use Rattle.runs.specs.Told.{Tale, untold, adds, told}
-use Rattle.runs.proofs.Told.{reads, prints, Holds, told-holds, Leads, told-leads}
+use Rattle.runs.specs.Told.{Tale, untold, adds, told, Holds, Leads}
+use Rattle.runs.proofs.Told.{reads, prints, told-holds, told-leads}
 
 -- a place in a run: the lines read and printed before it, and those behind it
 pub record Place : Type 0 where

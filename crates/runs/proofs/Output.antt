@@ -15,7 +15,7 @@ use Rattle.lines.specs.Parts.{lf, linesOf}
 use Rattle.lines.proofs.Parts.{free, first-part, one-line, free-end}
 use Rattle.runs.specs.Commands.{readLine, obeyed}
 use Rattle.runs.specs.Rows.{row, longestRow}
-use Rattle.runs.specs.Feed.{Carry, enough, carryOf, runOf, fresh, next, stepped, ended, longer, rowAt, saidAt, afterByte, after, said, takes, takenOf, fedOf, Feeds, closing}
+use Rattle.runs.specs.Feed.{Carry, enough, carryOf, runOf, fresh, next, stepped, ended, longer, rowAt, saidAt, afterByte, after, said, takes, Feeds, closing}
 use Rattle.runs.specs.Output.{rows, outputOf}
 use Rattle.runs.specs.declared.Run.{Run}
 use Rattle.runs.specs.declared.Fed.{Fed}
@@ -99,10 +99,11 @@ module _ {run : Run} {block out : List ℕ} {r : Fed} {out' : List ℕ} (f : Fee
   pub feed-within : r .used ≤ length block
   feed-within = omega (arith, taken, takes-le (length out) (carryOf run) block)
 
-  pub feed-moves : longestRow ≤ length out → 0 < length block → 0 < r .used
+  -- 71 bytes are room for a row
+  pub feed-moves : 71 ≤ length out → 0 < length block → 0 < r .used
   feed-moves l k = omega (arith, taken, moves (length out) (carryOf run) block l k)
 
-  pub feed-stops : r .used < length block → length out < r .wrote + longestRow
+  pub feed-stops : r .used < length block → length out < r .wrote + 71
   feed-stops h =
       let full = stops-full (length out) (carryOf run) block (omega (arith, taken)) in
       omega (arith, ap (λ (x : Fed). x .wrote) (f .answer))
@@ -119,7 +120,7 @@ module _ (run : Run) (input out : List ℕ) (from : ℕ) (r : Fed) (out' : List 
   turn-within = omega (arith, feed-within rest, length-drop from input)
 
   pub turn-moves : longestRow ≤ length out → from < length input → 0 < r .used
-  turn-moves l k = feed-moves rest l (omega (arith, length-drop from input))
+  turn-moves l k = omega (arith, taken rest, moves (length out) (carryOf run) (drop from input) l (omega (arith, length-drop from input)))
 
   pub turn-carries : after (carryOf run) (drop from input) ≡ after (carryOf (r .run)) (drop (from + r .used) input)
   turn-carries =

@@ -1,13 +1,12 @@
 -- What the lines tell is what the transfer did: each line leaves the transfer and the tale in agreement, so that demand 3 of the one is
 -- demand 3 of the other. Assumes nothing.
-use Prim.Native.Nat.{ℕ, _+_, _-_, _≤_, _<_}
-use mathlib.Core.Bool.{true, false}
+use Prim.Native.Nat.{ℕ, _+_, _-_}
+use mathlib.Core.Bool.{true}
 use mathlib.Core.List.{List, [], _∷_, _++_, map}
 use mathlib.Core.Path.{_≡_, refl, sym, ap, _∙_, subst}
 use native.Mathlib.Omega.{arith}
 use borrow.Author.Tests.{not-false}
 use lib.Dec.{eqb, leb}
-use lib.ListN.{length}
 use Rattle.laws.proofs.Bools.{by-test}
 use Rattle.refusals.proofs.Causes.{by-causes}
 use Rattle.refusals.specs.Causes.{refuse}
@@ -16,9 +15,8 @@ use Rattle.transfer.specs.Rules.{before}
 use Rattle.transfer.specs.Steps.{limit, unfinished, draining, say, refused, started, framed, frameLength, answered, allSent, settled, drained, acked, naked, dropped, ended}
 use Rattle.transfer.specs.Steps.{startCauses, frameCauses, answerCauses, endCauses, startStep, frameStep, ackStep, nakStep, dropStep, endStep}
 use Rattle.transfer.specs.Calls.{Call, start, frame, ack, nak, timeout, lost, nexus, cancel, stepOf}
-use Rattle.transfer.specs.History.{Frame as Sent, Entry, sent, isRefused, entries, view, Covered}
+use Rattle.transfer.specs.History.{Entry, sent, isRefused, entries, view, Covered}
 use Rattle.transfer.specs.Log.{nextFrame, entriesOf}
-use Rattle.transfer.specs.Demand.{Demand3}
 use Rattle.transfer.specs.declared.Transfer.{Transfer}
 use Rattle.transfer.specs.declared.Stepped.{Stepped}
 use Rattle.transfer.specs.declared.Answer.{Answer}
@@ -31,7 +29,7 @@ use Rattle.runs.specs.Feed.{next}
 use Rattle.runs.specs.Rows.{row}
 use Rattle.runs.specs.Output.{rows, outputOf}
 use Rattle.runs.specs.Turns.{Turn, turnOf, turns, turnsOf, shownBytes}
-use Rattle.runs.specs.Told.{Tale, untold, byStart, adds, asked, goesOn, tell, told}
+use Rattle.runs.specs.Told.{Tale, untold, byStart, adds, asked, goesOn, tell, told, Holds, Leads}
 use Rattle.runs.specs.declared.Command.{Command}
 use Rattle.runs.specs.declared.Command.the-variants.{Start, Frame, Ack, Nak, Timeout, Lost, Nexus, Cancel, Bad}
 
@@ -132,19 +130,6 @@ pub record Agree (s : Transfer) (w : Tale) : Type 0 where
   pub balance : w .balance ≡ s .balance
   pub unanswered : w .unanswered ≡ s .unanswered
   pub sound : Inv limit s (view (w .history))
-
--- demand 3 of the tale: of what was told, and of one line more
-pub record Holds (w : Tale) : Type 0 where
-  pub within : (w .offset ≤ w .balance) × (w .balance ≤ w .offset + w .count)
-  pub sure : (x : ℕ) → w .offset ≤ x → x < w .balance → Covered x (view (w .history) .acked)
-  pub settled : (f : Sent) (fs : List Sent) → view (w .history) .attempt ≡ f ∷ fs → view (w .history) .good ≡ view (w .history) .attempt → w .balance ≡ f .at + f .len
-  pub few : length (view (w .history) .waiting) ≤ limit
-  pub counted : w .going ≡ true → w .unanswered ≡ length (view (w .history) .waiting)
-  pub over : w .going ≡ false → w .unanswered ≡ 0
-
-pub record Leads (w : Tale) (t : Turn) : Type 0 where
-  pub resend : (f : Sent) → adds w t ≡ sent f ∷ [] → view (w .history) .attempt ≡ [] → f .at ≡ w .balance
-  pub delivers : t .shown .word ≡ Answer.Done → (x : ℕ) → w .offset ≤ x → x < w .offset + w .count → Covered x (view (adds w t ++ w .history) .acked)
 
 pub holds : {s : Transfer} {w : Tale} → Agree s w → Holds w
 holds {s} {w} a =

@@ -1,10 +1,12 @@
 -- Document 01, 'Read transfer': what the lines of a run tell one who sees these alone: the request as it was typed, the columns of the
 -- last line, and the history of frames and answers. A frame lies between the read offsets of two lines. No state is read here.
 -- Assumes nothing.
-use Prim.Native.Nat.{ℕ, _-_}
+use Prim.Native.Nat.{ℕ, _+_, _-_, _≤_, _<_}
 use mathlib.Core.Bool.{Bool, true, false, cond}
 use mathlib.Core.List.{List, [], _∷_, _++_}
-use Rattle.transfer.specs.History.{Entry, started, sent, acked, naked, timedOut, wasLost, ended, isRefused}
+use mathlib.Core.Path.{_≡_}
+use lib.ListN.{length}
+use Rattle.transfer.specs.History.{Frame as Sent, Entry, started, sent, acked, naked, timedOut, wasLost, ended, isRefused, view, Covered}
 use Rattle.transfer.specs.declared.Answer.{Answer}
 use Rattle.runs.specs.Turns.{Turn}
 use Rattle.runs.specs.declared.Command.{Command}
@@ -83,3 +85,26 @@ tell w t = record {
 abbrev pub told : Tale → List Turn → Tale
 told w [] = w
 told w (t ∷ ts) = told (tell w t) ts
+
+-- ---- demand 3, sentence by sentence
+
+-- of what was told
+pub record Holds (w : Tale) : Type 0 where
+  -- "the balance point lies within the request;
+  pub within : (w .offset ≤ w .balance) × (w .balance ≤ w .offset + w .count)
+  -- every requested byte before it was in a frame whose ACK was reported, by the history of frames and answers;
+  pub sure : (x : ℕ) → w .offset ≤ x → x < w .balance → Covered x (view (w .history) .acked)
+  -- if frames were sent in the present attempt and all were ACKed, it stands at the end of the last;
+  pub settled : (f : Sent) (fs : List Sent) → view (w .history) .attempt ≡ f ∷ fs → view (w .history) .good ≡ view (w .history) .attempt → w .balance ≡ f .at + f .len
+  -- at most 64 frames are unanswered.
+  pub few : length (view (w .history) .waiting) ≤ 64
+  -- Frames and answers are never matched by a short number."
+  pub counted : w .going ≡ true → w .unanswered ≡ length (view (w .history) .waiting)
+  pub over : w .going ≡ false → w .unanswered ≡ 0
+
+-- of the line that comes then
+pub record Leads (w : Tale) (t : Turn) : Type 0 where
+  -- "each resend begins at the balance point;
+  pub resend : (f : Sent) → adds w t ≡ sent f ∷ [] → view (w .history) .attempt ≡ [] → f .at ≡ w .balance
+  -- "delivered" is answered only once every requested byte was ACKed;"
+  pub delivers : t .shown .word ≡ Answer.Done → (x : ℕ) → w .offset ≤ x → x < w .offset + w .count → Covered x (view (adds w t ++ w .history) .acked)
