@@ -3,24 +3,22 @@
 -- Assumes nothing.
 use Prim.Native.Nat.{ℕ, _+_, _≤_, _<_}
 use mathlib.Core.Bool.{true, false}
-use mathlib.Core.List.{List, [], _∷_, _++_, map}
-use mathlib.Core.Path.{_≡_, ap, _∙_}
+use mathlib.Core.List.{List, [], _∷_, _++_}
+use mathlib.Core.Path.{_≡_, sym, _∙_}
 use lib.ListN.{length}
-use Rattle.lines.specs.Parts.{linesOf}
 use Rattle.transfer.specs.History.{Frame, View, sent, view, Covered}
 use Rattle.transfer.specs.declared.Answer.{Answer}
-use Rattle.runs.specs.Commands.{readLine}
-use Rattle.runs.specs.Output.{outputOf}
-use Rattle.runs.specs.Turns.{Turn, turnsOf, shownBytes}
+use Rattle.runs.specs.Turns.{Turn, turnsOf, Read}
 use Rattle.runs.specs.Told.{Tale, untold, adds, told, Holds, Leads}
-use Rattle.runs.proofs.Told.{reads, prints, told-holds, told-leads}
+use Rattle.runs.proofs.Shown.{one-reading}
+use Rattle.runs.proofs.Told.{read-out, told-holds, told-leads}
 
 -- a place in a run: the lines read and printed before it, and those behind it
 pub record Place : Type 0 where
   pub input : List ℕ
   pub past : List Turn
   pub rest : List Turn
-  pub are : turnsOf input ≡ past ++ rest
+  pub read : Read input (past ++ rest)
 
 -- what the lines before it tell, and what their history says of the frames
 abbrev tale : Place → Tale
@@ -31,9 +29,9 @@ seen p = view (tale p .history)
 
 -- 01 TEXT.2 01 READ.3 01 READ.7
 pub record Printed : Type 0 where
-  -- the lines are those of the input, and those of the output
-  pub reads : (input : List ℕ) → map (λ (t : Turn). t .said) (turnsOf input) ≡ map readLine (linesOf input)
-  pub prints : (input : List ℕ) → outputOf input ≡ shownBytes (turnsOf input)
+  -- every run has such lines, and leaves no choice of them
+  pub some : (input : List ℕ) → (ts : List Turn) × Read input ts
+  pub one : (input : List ℕ) (ts us : List Turn) → Read input ts → Read input us → ts ≡ us
   -- "the balance point lies within the request;
   pub within : (p : Place) → (tale p .offset ≤ tale p .balance) × (tale p .balance ≤ tale p .offset + tale p .count)
   -- every requested byte before it was in a frame whose ACK was reported, by the history of frames and answers;
@@ -51,15 +49,15 @@ pub record Printed : Type 0 where
   pub over : (p : Place) → tale p .going ≡ false → tale p .unanswered ≡ 0
 
 all : (p : Place) → Holds (tale p)
-all p = told-holds (p .input) (p .past) (p .rest) (p .are)
+all p = told-holds (p .input) (p .past) (p .rest) (p .read)
 
 here : (p : Place) (t : Turn) (more : List Turn) → p .rest ≡ t ∷ more → Leads (tale p) t
-here p t more e = told-leads (p .input) (p .past) more t (p .are ∙ ap (λ (ts : List Turn). p .past ++ ts) e)
+here p = told-leads (p .input) (p .past) (p .rest) (p .read)
 
 pub printed : Printed
 printed = record {
-  reads = reads;
-  prints = prints;
+  some = λ input. (turnsOf input, read-out input);
+  one = λ input ts us r q. one-reading ts us (r .said ∙ sym (q .said)) (r .printed ∙ sym (q .printed));
   within = λ p. all p .within;
   sure = λ p. all p .sure;
   resend = λ p t more f e. here p t more e .resend f;

@@ -1,6 +1,6 @@
 -- A line says a command exactly if it is that command written: a word is compared whole, and a number's digits are its own alone.
 -- Assumes nothing.
-use Prim.Native.Nat.{ℕ, _≤_}
+use Prim.Native.Nat.{ℕ, _≤_, _<_}
 use mathlib.Core.Bool.{true, not, cond}
 use mathlib.Core.List.{List, [], _∷_}
 use mathlib.Core.Path.{_≡_, refl, sym, ap, _∙_}
@@ -70,15 +70,19 @@ module _ (c : Command) (fine : c ≡ Bad → ⊥) where
 
 -- ---- a command written says it
 
-no-tab : (s : List ℕ) → allDigits s ≡ true → free tab s ≡ true
-no-tab [] h = refl
-no-tab (b ∷ s) h =
-    let d = digit-range b (and-left (isDigit b) (allDigits s) h) in
-    let ne : b ≡ tab → ⊥ = λ e. omega (arith, d) in
-    and-true (ap not (ne-eqb b tab ne)) (no-tab s (and-right (isDigit b) (allDigits s) h))
+-- no digit is a tab or an LF
+digits-free : (sep : ℕ) → sep < 48 → (s : List ℕ) → allDigits s ≡ true → free sep s ≡ true
+digits-free sep h [] d = refl
+digits-free sep h (b ∷ s) d =
+    let in-range = digit-range b (and-left (isDigit b) (allDigits s) d) in
+    let ne : b ≡ sep → ⊥ = λ e. omega (arith, in-range) in
+    and-true (ap not (ne-eqb b sep ne)) (digits-free sep h s (and-right (isDigit b) (allDigits s) d))
+
+pub decimal-free : (sep : ℕ) → sep < 48 → (n : ℕ) → free sep (decimal n) ≡ true
+decimal-free sep h n = digits-free sep h (decimal n) (decimal-digits n)
 
 free-decimal : (n : ℕ) → free tab (decimal n) ≡ true
-free-decimal n = no-tab (decimal n) (decimal-digits n)
+free-decimal = decimal-free tab (omega arith)
 
 module _ (b n m r : ℕ) (hb : b ≤ largest) (hn : n ≤ largest) (hm : m ≤ largest) (hr : r ≤ largest) where
   start-fields : fieldsOf (written (Start b n m r)) ≡ START ∷ decimal b ∷ decimal n ∷ decimal m ∷ decimal r ∷ []

@@ -7,4 +7,5 @@ pub mod Turns
 pub mod Output
 pub mod Listing
 pub mod Facts
+pub mod Shown
 pub mod Told

@@ -28,8 +28,9 @@ use Rattle.runs.specs.Commands.{readLine, obeyed}
 use Rattle.runs.specs.Feed.{next}
 use Rattle.runs.specs.Rows.{row}
 use Rattle.runs.specs.Output.{rows, outputOf}
-use Rattle.runs.specs.Turns.{Turn, turnOf, turns, turnsOf, shownBytes}
+use Rattle.runs.specs.Turns.{Turn, turnOf, turns, turnsOf, shownBytes, Read}
 use Rattle.runs.specs.Told.{Tale, untold, byStart, adds, asked, goesOn, tell, told, Holds, Leads}
+use Rattle.runs.proofs.Shown.{one-reading}
 use Rattle.runs.specs.declared.Command.{Command}
 use Rattle.runs.specs.declared.Command.the-variants.{Start, Frame, Ack, Nak, Timeout, Lost, Nexus, Cancel, Bad}
 
@@ -39,16 +40,14 @@ saying : (k : ℕ) (s : Transfer) (ls : List (List ℕ)) → map (λ (t : Turn).
 saying k s [] = refl
 saying k s (l ∷ ls) = ap (λ (cs : List Command). readLine l ∷ cs) (saying (next k) (obeyed (readLine l) s .state) ls)
 
-pub reads : (input : List ℕ) → map (λ (t : Turn). t .said) (turnsOf input) ≡ map readLine (linesOf input)
-reads input = saying 0 before (linesOf input)
-
-shown : (k : ℕ) (s : Transfer) (ls : List (List ℕ)) → rows k s ls ≡ shownBytes (turns k s ls)
+shown : (k : ℕ) (s : Transfer) (ls : List (List ℕ)) → shownBytes (turns k s ls) ≡ rows k s ls
 shown k s [] = refl
 shown k s (l ∷ ls) = ap (λ (b : List ℕ). row (next k) (obeyed (readLine l) s) ++ b) (shown (next k) (obeyed (readLine l) s .state) ls)
 
-pub prints : (input : List ℕ) → outputOf input ≡ shownBytes (turnsOf input)
+-- a run is read
+pub read-out : (input : List ℕ) → Read input (turnsOf input)
 unfolding outputOf
-prints input = shown 0 before (linesOf input)
+read-out input = record { said = saying 0 before (linesOf input); printed = shown 0 before (linesOf input) }
 
 -- ---- the request and the words
 
@@ -150,11 +149,11 @@ pub record Step (k : ℕ) (c : Command) (st : Stepped) (w : Tale) : Type 0 where
 
 module _ (k : ℕ) (s : Transfer) (w : Tale) (a : Agree s w) where
   -- of a command that is a call, where the line tells what the history has, and asks for what the transfer has
-  by-call : (c : Command) (call : Call) →
+  calls-agree : (c : Command) (call : Call) →
       let st = stepOf limit call s in
       let t = turnOf k c st in
       entriesOf limit call s ≡ adds w t → Follows s (asked (λ b n. b) (w .offset) t) (asked (λ b n. n) (w .count) t) st → Step k c st w
-  by-call c call tells asks =
+  calls-agree c call tells asks =
       let h = w .history in
       let st = stepOf limit call s in
       let d = demand limit s h (a .sound) call in
@@ -177,8 +176,8 @@ module _ (k : ℕ) (s : Transfer) (w : Tale) (a : Agree s w) where
       }
 
   -- a line that asks for nothing, whatever its word
-  by-stay : (c : Command) (call : Call) → ((which : ℕ → ℕ → ℕ) (x : ℕ) → byStart which x c ≡ x) → let st = stepOf limit call s in entriesOf limit call s ≡ adds w (turnOf k c st) → Stays limit s st → Step k c st w
-  by-stay c call quiet tells stays = by-call c call tells (record { offset = none (λ b n. b) (w .offset) ∙ a .offset ∙ stays .offset; count = none (λ b n. n) (w .count) ∙ a .count ∙ stays .count; going = stays .going })
+  stays-agree : (c : Command) (call : Call) → ((which : ℕ → ℕ → ℕ) (x : ℕ) → byStart which x c ≡ x) → let st = stepOf limit call s in entriesOf limit call s ≡ adds w (turnOf k c st) → Stays limit s st → Step k c st w
+  stays-agree c call quiet tells stays = calls-agree c call tells (record { offset = none (λ b n. b) (w .offset) ∙ a .offset ∙ stays .offset; count = none (λ b n. n) (w .count) ∙ a .count ∙ stays .count; going = stays .going })
     where
       none : (which : ℕ → ℕ → ℕ) (x : ℕ) → asked which x (turnOf k c (stepOf limit call s)) ≡ x
       none which x = by-test (λ (y : ℕ). y ≡ x) (isRefused (stepOf limit call s .answer)) (λ t. refl) (λ t. quiet which x)
@@ -208,14 +207,14 @@ module _ (k : ℕ) (s : Transfer) (w : Tale) (a : Agree s w) where
 
   pub step : (c : Command) → Step k c (obeyed c s) w
   unfolding obeyed
-  step (Start b n m r) = by-call (Start b n m r) (start b n m r) refl (start-asks b n m r)
-  step Frame = by-stay Frame frame (λ which x. refl) frame-told (stays-frame limit s)
-  step Ack = by-stay Ack ack (λ which x. refl) refl (stays-ack limit s)
-  step Nak = by-stay Nak nak (λ which x. refl) refl (stays-nak limit s)
-  step Timeout = by-stay Timeout timeout (λ which x. refl) refl (stays-timeout limit s)
-  step Lost = by-stay Lost lost (λ which x. refl) refl (stays-lost limit s)
-  step Nexus = by-stay Nexus nexus (λ which x. refl) refl (stays-nexus limit s)
-  step Cancel = by-stay Cancel cancel (λ which x. refl) refl (stays-cancel limit s)
+  step (Start b n m r) = calls-agree (Start b n m r) (start b n m r) refl (start-asks b n m r)
+  step Frame = stays-agree Frame frame (λ which x. refl) frame-told (stays-frame limit s)
+  step Ack = stays-agree Ack ack (λ which x. refl) refl (stays-ack limit s)
+  step Nak = stays-agree Nak nak (λ which x. refl) refl (stays-nak limit s)
+  step Timeout = stays-agree Timeout timeout (λ which x. refl) refl (stays-timeout limit s)
+  step Lost = stays-agree Lost lost (λ which x. refl) refl (stays-lost limit s)
+  step Nexus = stays-agree Nexus nexus (λ which x. refl) refl (stays-nexus limit s)
+  step Cancel = stays-agree Cancel cancel (λ which x. refl) refl (stays-cancel limit s)
   step Bad = bad-step
 
 -- ---- any place in a run
@@ -242,18 +241,21 @@ stand k s (l ∷ ls) w a (t ∷ past) rest e =
 first-agree : Agree before untold
 first-agree = record { offset = refl; count = refl; going = refl; read = refl; balance = refl; unanswered = refl; sound = at-first limit }
 
--- DEMAND 3, of what the lines told at any place
-pub told-holds : (input : List ℕ) (past rest : List Turn) → turnsOf input ≡ past ++ rest → Holds (told untold past)
-told-holds input past rest e = holds (stand 0 before (linesOf input) untold first-agree past rest e .agree)
+-- of any lines that are those of an input and of its output
+module _ (input : List ℕ) (past rest : List Turn) (r : Read input (past ++ rest)) where
+  stood : Stands untold past rest
+  stood = stand 0 before (linesOf input) untold first-agree past rest (one-reading (turnsOf input) (past ++ rest) (read-out input .said ∙ sym (r .said)) (read-out input .printed ∙ sym (r .printed)))
 
--- and of the line that comes there
-pub told-leads : (input : List ℕ) (past rest : List Turn) (t : Turn) → turnsOf input ≡ past ++ (t ∷ rest) → Leads (told untold past) t
-told-leads input past rest t e =
-    let x = stand 0 before (linesOf input) untold first-agree past (t ∷ rest) e in
-    by (x .number) (x .state) (x .lines) (x .are) (x .agree)
-  where
-    by : (k : ℕ) (s : Transfer) (ls : List (List ℕ)) → t ∷ rest ≡ turns k s ls → Agree s (told untold past) → Leads (told untold past) t
-    by k s [] q a = absurd (apart (cc))
-    by k s (l ∷ ls) q a =
-        let this : turnOf k (readLine l) (obeyed (readLine l) s) ≡ t = cc in
-        subst (Leads (told untold past)) this (step k s (told untold past) a (readLine l) .leads)
+  -- DEMAND 3, of what they told at any place
+  pub told-holds : Holds (told untold past)
+  told-holds = holds (stood .agree)
+
+  -- and of the line that comes there
+  pub told-leads : (t : Turn) (more : List Turn) → rest ≡ t ∷ more → Leads (told untold past) t
+  told-leads t more e = by (stood .number) (stood .state) (stood .lines) (sym e ∙ stood .are) (stood .agree)
+    where
+      by : (k : ℕ) (s : Transfer) (ls : List (List ℕ)) → t ∷ more ≡ turns k s ls → Agree s (told untold past) → Leads (told untold past) t
+      by k s [] q a = absurd (apart (cc))
+      by k s (l ∷ ls) q a =
+          let this : turnOf k (readLine l) (obeyed (readLine l) s) ≡ t = cc in
+          subst (Leads (told untold past)) this (step k s (told untold past) a (readLine l) .leads)

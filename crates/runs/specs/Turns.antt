@@ -1,7 +1,8 @@
 -- Document 01, 'Read transfer': the lines of a run of `readrun` side by side: what each line of input says, and the six columns of the
 -- line of output that it gives. Assumes nothing.
 use Prim.Native.Nat.{ℕ}
-use mathlib.Core.List.{List, [], _∷_, _++_}
+use mathlib.Core.List.{List, [], _∷_, _++_, map}
+use mathlib.Core.Path.{_≡_}
 use Rattle.lines.specs.Parts.{linesOf}
 use Rattle.transfer.specs.Rules.{before}
 use Rattle.transfer.specs.Examples.{Line, line}
@@ -10,6 +11,7 @@ use Rattle.transfer.specs.declared.Stepped.{Stepped}
 use Rattle.runs.specs.Commands.{readLine, obeyed}
 use Rattle.runs.specs.Rows.{rowOf}
 use Rattle.runs.specs.Feed.{next}
+use Rattle.runs.specs.Output.{outputOf}
 use Rattle.runs.specs.declared.Command.{Command}
 
 pub record Turn : Type 0 where
@@ -32,3 +34,8 @@ turnsOf input = turns 0 before (linesOf input)
 abbrev pub shownBytes : List Turn → List ℕ
 shownBytes [] = []
 shownBytes (t ∷ ts) = rowOf (t .shown .number) (t .shown .word) (t .shown .read) (t .shown .balance) (t .shown .unanswered) (t .shown .used) ++ shownBytes ts
+
+-- the turns are what the lines of an input say, and what it prints, and nothing else
+pub record Read (input : List ℕ) (ts : List Turn) : Type 0 where
+  pub said : map (λ (t : Turn). t .said) ts ≡ map readLine (linesOf input)
+  pub printed : shownBytes ts ≡ outputOf input
