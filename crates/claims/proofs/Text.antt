@@ -1,14 +1,15 @@
 -- Demand 2, text: what `readrun`'s calls write, whatever the blocks that come in and the buffers that go out, is document 01's output,
 -- since each call takes up what the last one carried over; a line says a command exactly if it is that command written; and a number
 -- is read as it is written. Assumes nothing.
-use Prim.Native.Nat.{ℕ, _+_, _≤_, _<_}
+use Prim.Native.Nat.{ℕ, suc, _+_, _≤_, _<_}
 use mathlib.Core.Bool.{Bool, true, false, cond}
 use mathlib.Core.List.{List, [], _∷_, _++_, map}
 use mathlib.Core.Path.{_≡_, refl, sym, ap, _∙_}
+use native.Mathlib.Omega.{arith}
 use borrow.Author.Tests.{le-ltb, lt-ltb}
 use denote.Ref.{now}
 use lib.Dec.{eqb}
-use lib.ListN.{length, take, drop, replicate}
+use lib.ListN.{length, take, drop, replicate, length-drop}
 use lib.Seq.{take-append-seam}
 use Rattle.laws.proofs.Lists.{front-again}
 use Rattle.lines.specs.Numbers.{readNumber, decimal}
@@ -41,6 +42,11 @@ pub data Ran : List ℕ → List ℕ → Run → Type 0 where
   begun : (c : Fresh) → Ran [] [] (c .answer)
   fed : {input words : List ℕ} {run : Run} → Ran input words run → (c : Feed) → c .args .0 ≡ run → Ran (input ++ take (c .answer .used) (now (c .args .1 .0))) (words ++ take (c .answer .wrote) (now (c .exit .1 .1 .0))) (c .answer .run)
 
+-- n calls of `feed`, each given what the last one left of a block, and room for a row, which has at most 71 bytes
+pub data Loop : List ℕ → ℕ → Type 0 where
+  stop : {block : List ℕ} → Loop block 0
+  turn : {block : List ℕ} {n : ℕ} (c : Feed) → now (c .args .1 .0) ≡ block → 71 ≤ length (now (c .args .1 .1 .0)) → 0 < length block → Loop (drop (c .answer .used) block) n → Loop block (suc n)
+
 -- what a run says of some bytes
 abbrev words-of : Run → List ℕ → List ℕ
 words-of run s = said (carryOf run) s
@@ -52,9 +58,11 @@ pub record Text : Type 0 where
   pub parts : (run : Run) (s t : List ℕ) →
       (runOf (after (carryOf (runOf (after (carryOf run) s))) t) ≡ runOf (after (carryOf run) (s ++ t)))
       × (words-of run s ++ words-of (runOf (after (carryOf run) s)) t ≡ words-of run (s ++ t))
-  -- with room for a row, at most 71 bytes long, `feed` takes some of what it is given, so that a loop that feeds what is left ends
+  -- with room for a row `feed` takes some of what it is given
   pub moves : (c : Feed) → 71 ≤ length (now (c .args .1 .1 .0)) → 0 < length (now (c .args .1 .0)) → (0 < c .answer .used) × (c .answer .used ≤ length (now (c .args .1 .0)))
-  -- and it leaves something only where less room than that is left
+  -- so that a loop that feeds what is left ends
+  pub ends : (block : List ℕ) (n : ℕ) → Loop block n → n ≤ length block
+  -- and it leaves something only where less room is left
   pub stops : (c : Feed) → c .answer .used < length (now (c .args .1 .0)) → length (now (c .args .1 .1 .0)) < c .answer .wrote + 71
   -- lines are numbered one by one, up to the last number of 64 bits
   pub numbers : (n : ℕ) → n < 18446744073709551615 → next n ≡ n + 1
@@ -112,6 +120,14 @@ all-closed room c len h = by (eqb len 0)
     by true = refl
     by false = ap (λ (u : Bool). take (cond u 0 1) (lf ∷ [])) (le-ltb room longestRow h)
 
+-- each call of a loop takes a byte at least
+few-calls : {block : List ℕ} {n : ℕ} → Loop block n → n ≤ length block
+few-calls stop = omega arith
+few-calls (turn {block} {n} c is room some left) =
+    let same : length (now (c .args .1 .0)) ≡ length block = ap length is in
+    let moved = feed-moves (c .met) room (omega arith) in
+    omega (arith, few-calls left, length-drop (c .answer .used) block)
+
 pub text : Text
 text = record {
   prints = λ {input} {words} {run} r c e h.
@@ -124,6 +140,7 @@ text = record {
       ∙ whole input;
   parts = λ run s t. (blocks run s t, blocks-said run s t);
   moves = λ c room some. (feed-moves (c .met) room some, feed-within (c .met));
+  ends = λ block n f. few-calls f;
   stops = λ c left. feed-stops (c .met) left;
   numbers = λ n h. ap (λ (t : Bool). cond t (n + 1) n) (lt-ltb n 18446744073709551615 h);
   says = λ s c fine e. said-is c fine s e;

@@ -7,7 +7,6 @@ use Rattle.transfer.specs.declared.Answer.{Answer}
 use Rattle.runs.specs.declared.Command.{Command}
 use Rattle.runs.specs.declared.Command.the-variants.{Start, Frame, Ack, Nak, Timeout, Lost, Nexus, Cancel}
 
--- 01 TEXT.1 01 TEXT.4
 -- "START\t1\t2\t3\t4", "START\t4294967295\t0\t10\t0", "FRAME", "ACK", "NAK", "TIMEOUT", "LOST", "NEXUS", "CANCEL"
 abbrev pub typedLines : List (List ℕ)
 typedLines =
@@ -29,7 +28,6 @@ typedCommands = Start 1 2 3 4 ∷ Start 4294967295 0 10 0 ∷ Frame ∷ Ack ∷ 
 abbrev pub typedCalls : List Call
 typedCalls = start 1 2 3 4 ∷ start 4294967295 0 10 0 ∷ frame ∷ ack ∷ nak ∷ timeout ∷ lost ∷ nexus ∷ cancel ∷ []
 
--- 01 TEXT.4 01 TEXT.5
 -- "", "frame", "FRAME ", "FRAME\t", "START 1 2 3 4", "START\t1\t2\t3", "START\t1\t2\t3\t4\t5", "START\t\t2\t3\t4", "START\t+1\t2\t3\t4", "START\t-1\t2\t3\t4", "START\t01\t2\t3\t4", "START\t1\t2\t3\t4294967296", "ACK\r"
 abbrev pub otherLines : List (List ℕ)
 otherLines =
@@ -48,7 +46,6 @@ otherLines =
     ∷ (65 ∷ 67 ∷ 75 ∷ 13 ∷ [])
     ∷ []
 
--- 01 TEXT.2
 -- "ok", "sent", "drain", "retry", "done", "fail", "end", "1", "2", "3", "4", "5", "6", "7", "8", "9", "10"
 abbrev pub typedWords : List (List ℕ)
 typedWords =
@@ -71,7 +68,6 @@ typedWords =
     ∷ (49 ∷ 48 ∷ [])
     ∷ []
 
--- 01 REFUSAL.1 to 01 REFUSAL.10
 abbrev pub typedAnswers : List Answer
 typedAnswers =
     Answer.Ok
@@ -93,12 +89,10 @@ typedAnswers =
     ∷ Answer.Refused Refusal.Full
     ∷ []
 
--- 01 TEXT.2
 -- "7\tdone\t11\t12\t13\t14\n"
 abbrev pub typedRow : List ℕ
 typedRow = 55 ∷ 9 ∷ 100 ∷ 111 ∷ 110 ∷ 101 ∷ 9 ∷ 49 ∷ 49 ∷ 9 ∷ 49 ∷ 50 ∷ 9 ∷ 49 ∷ 51 ∷ 9 ∷ 49 ∷ 52 ∷ 10 ∷ []
 
--- 01 TEXT.6
 -- the listing's lines in, and its lines out
 abbrev pub typedInput : List ℕ
 typedInput =

@@ -7,7 +7,7 @@ use mathlib.Core.List.{List, [], _∷_}
 abbrev pub openNumbers : List ℕ
 openNumbers = 1 ∷ 2 ∷ 3 ∷ 9 ∷ 258 ∷ 1161981756646125696 ∷ 9332165983064197000 ∷ 19 ∷ 5141 ∷ []
 
--- 01 OPEN.2 01 OPEN.3 01 OPEN.4 01 OPEN.5
+-- the bytes of their frame
 abbrev pub openTyped : List ℕ
 openTyped = 161 ∷ 57 ∷ 1 ∷ 2 ∷ 16 ∷ 32 ∷ 48 ∷ 64 ∷ 80 ∷ 96 ∷ 112 ∷ 128 ∷ 129 ∷ 130 ∷ 131 ∷ 132 ∷ 133 ∷ 134 ∷ 135 ∷ 136 ∷ 0 ∷ 19 ∷ 20 ∷ 21 ∷ 0 ∷ 0 ∷ 0 ∷ 0 ∷ []
 
@@ -18,6 +18,6 @@ dataNumbers = 66051 ∷ 263430 ∷ 1 ∷ 1800 ∷ 151653132 ∷ []
 abbrev pub dataBody : List ℕ
 dataBody = 13 ∷ 14 ∷ 15 ∷ 16 ∷ 17 ∷ []
 
--- 01 DATA.1 01 DATA.2
+-- the bytes of their frame, with this body
 abbrev pub dataTyped : List ℕ
 dataTyped = 1 ∷ 1 ∷ 2 ∷ 3 ∷ 0 ∷ 4 ∷ 5 ∷ 6 ∷ 0 ∷ 0 ∷ 1 ∷ 3 ∷ 0 ∷ 0 ∷ 0 ∷ 0 ∷ 7 ∷ 8 ∷ 255 ∷ 255 ∷ 9 ∷ 10 ∷ 11 ∷ 12 ∷ 13 ∷ 14 ∷ 15 ∷ 16 ∷ 17 ∷ 0 ∷ 0 ∷ 0 ∷ []
