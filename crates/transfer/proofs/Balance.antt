@@ -336,7 +336,7 @@ module _ (bound : ℕ) (s : Transfer) (h : List Entry) (i : Inv bound s (view h)
   count (inr e) = drains bound s (view h) i e .count
 
   -- no more were ACKed in the attempt than sent, those out not counted
-  tally : (s .phase ≡ Phase.Run) ⊎ (s .phase ≡ Phase.Drain) → length (view h .good) + s .unanswered ≤ length (view h .attempt)
+  pub tally : (s .phase ≡ Phase.Run) ⊎ (s .phase ≡ Phase.Drain) → length (view h .good) + s .unanswered ≤ length (view h .attempt)
   tally (inl e) =
       let r = running bound s (view h) i e in
       let l = onto-length (view h .waiting) (view h .good) in

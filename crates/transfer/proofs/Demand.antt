@@ -121,7 +121,7 @@ module _ (bound : ℕ) (s : Transfer) (h : List Entry) (i : Inv bound s (view h)
   settles false u = live-over s h (s .phase) u (i .live) .last
 
   -- with no frame sent in the attempt the read offset is the balance point
-  unsent : s .phase ≡ Phase.Run → view h .attempt ≡ [] → s .read ≡ s .balance
+  pub unsent : s .phase ≡ Phase.Run → view h .attempt ≡ [] → s .read ≡ s .balance
   unsent p none =
       let r = running bound s (view h) i p in
       let l = onto-length (view h .waiting) (view h .good) in

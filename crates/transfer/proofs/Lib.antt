@@ -3,6 +3,7 @@ pub mod Facts
 pub mod Calls
 pub mod Balance
 pub mod Demand
+pub mod Words
 pub mod Shape
 pub mod Sound
 mod Moves
@@ -11,4 +12,5 @@ pub mod Lent
 pub mod Stuck
 pub mod Endless
 pub mod Refusals
+pub mod Three
 pub mod Examples

@@ -67,7 +67,7 @@ causesOf bound nexus s = endCauses bound s
 causesOf bound cancel s = endCauses bound s
 
 -- what a call answers and leaves where it is not refused
-goesOn : Call → Transfer → Stepped
+pub goesOn : Call → Transfer → Stepped
 goesOn (start b n m r) s = say Answer.Ok (started b n m r)
 goesOn frame s = framed (frameLength s) s
 goesOn ack s = acked (answered s)
@@ -77,7 +77,7 @@ goesOn lost s = dropped s
 goesOn nexus s = ended s
 goesOn cancel s = ended s
 
-step-is : (bound : ℕ) (c : Call) (s : Transfer) → stepOf bound c s ≡ refuse (refused s) (causesOf bound c s) (goesOn c s)
+pub step-is : (bound : ℕ) (c : Call) (s : Transfer) → stepOf bound c s ≡ refuse (refused s) (causesOf bound c s) (goesOn c s)
 unfolding stepOf startStep frameStep ackStep nakStep dropStep endStep causesOf goesOn
 step-is bound (start b n m r) s = refl
 step-is bound frame s = refl
@@ -100,7 +100,7 @@ unfolding dropped
 drop-taken s = by-test Taken (leb (s .resends) (s .used)) (λ t. refl) (λ t. refl)
 
 -- what goes on is no refusal
-taken : (c : Call) (s : Transfer) → Taken (goesOn c s)
+pub taken : (c : Call) (s : Transfer) → Taken (goesOn c s)
 unfolding goesOn acked settled naked
 taken (start b n m r) s = refl
 taken frame s = refl

@@ -13,6 +13,17 @@ use Rattle.transfer.specs.declared.Phase.{Phase}
 abbrev pub InRange : ℕ → ℕ → ℕ → ℕ → Type 0
 InRange b n m r = (1 ≤ n) × ((b + n ≤ 4294967295) × ((m % 4 ≡ 0) × ((4 ≤ m) × ((m ≤ 1024) × (r ≤ 255)))))
 
+-- a setup number is out of range: START's alone
+abbrev pub OutOfRange : Call → Type 0
+OutOfRange (start b n m r) = InRange b n m r → ⊥
+OutOfRange frame = ⊥
+OutOfRange ack = ⊥
+OutOfRange nak = ⊥
+OutOfRange timeout = ⊥
+OutOfRange lost = ⊥
+OutOfRange nexus = ⊥
+OutOfRange cancel = ⊥
+
 -- a lent state breaks its rules
 abbrev pub Broken : ℕ → Transfer → Type 0
 Broken bound s = Reachable bound s → ⊥

@@ -3,6 +3,7 @@ pub mod Rules
 pub mod Steps
 pub mod Calls
 pub mod History
+pub mod Words
 pub mod Log
 pub mod Demand
 pub mod Grounds
