@@ -16,6 +16,7 @@ use Rattle.refusals.proofs.Causes.{none-append, Verdict, stopped, passes, verdi
 use Rattle.ssp_frame.specs.Data.{frameEnd, dataBytes, dataLeft, dataListed, readData}
 use Rattle.ssp_frame.specs.declared.data.DataHead.{DataHead}
 use Rattle.ssp_frame.specs.declared.data.DataRead.{DataRead}
+use Rattle.ssp_frame.specs.declared.data.DataRead.the-variants.{Frame as Data}
 use Rattle.ssp_frame.proofs.Fields.{listed-is}
 use Rattle.ssp_frame.proofs.Trip.{read-written, frame-long, body-held}
 use Rattle.transfer.specs.Steps.{frameLength, framed, refused, frameCauses, frameStep}
@@ -27,7 +28,7 @@ use Rattle.transfer.specs.declared.Stepped.{Stepped}
 use Rattle.transfer.specs.declared.Answer.{Answer}
 use Rattle.transfer.proofs.Calls.{frame-fits}
 use Rattle.transfer.proofs.Demand.{apart}
-use Rattle.send.specs.Send.{changingOf, headOf, fitting, nextCauses, nextStep, nextBytes, isSent}
+use Rattle.send.specs.Send.{headOf, fitting, nextCauses, nextStep, nextBytes, isSent}
 use Rattle.send.specs.Calls.{Call, next}
 use Rattle.send.specs.History.{Shot, found, written, shotsOf, frameOf, entryOf, frames}
 use Rattle.send.proofs.Laws.{Long, long}
@@ -52,7 +53,7 @@ entry-frames c f a = by (isRefused a) c
     by false plainly.Call.cancel = refl
 
 -- the frame in what a call adds is the one that the call sent
-pub the-sent : (c : plainly.Call) (g f : Shot) (a : Answer) → entries c g a ≡ sent f ∷ [] → f ≡ g
+pub the-sent : {F : Type 0} (c : plainly.Call) (g f : F) (a : Answer) → entries c g a ≡ sent f ∷ [] → f ≡ g
 the-sent c g f a = by (isRefused a) c
   where
     by : (t : Bool) (c : plainly.Call) → cond t [] (entryFor c g ∷ []) ≡ sent f ∷ [] → f ≡ g
@@ -75,7 +76,8 @@ module _ (bound : ℕ) (s : Transfer) (destination source tag : ℕ) (body out :
     pub step : nextStep bound s head body out ≡ frameStep bound s
     pub sends : frameStep bound s ≡ framed (frameLength s) s
     pub count : length body ≡ frameLength s
-    pub bytes : written (length body) (nextBytes bound s head body out) ≡ record { at = s .read; len = length body; changing = changingOf s; bytes = body }
+    pub read : readData (take (frameEnd (length body)) (nextBytes bound s head body out)) ≡ Data (record { head = head; length = length body })
+    pub bytes : written (length body) (nextBytes bound s head body out) ≡ record { at = head .offset; len = length body; changing = head .changing; bytes = body }
 
   -- one that is not changes nothing and leaves no frame
   pub record Kept : Type 0 where
@@ -108,7 +110,8 @@ module _ (bound : ℕ) (s : Transfer) (destination source tag : ℕ) (body out :
             step = v Stepped (refused s) (framed (frameLength s) s) ∙ sym sends;
             sends = sends;
             count = n;
-            bytes = ap (written (length body)) (v (List ℕ) (λ _. out) whole) ∙ (λ i. found (readData (front i)) (front i)) ∙ ap (λ (r : DataRead). found r frame) read ∙ (λ i. record { at = s .read; len = length body; changing = changingOf s; bytes = body-held head body i });
+            read = ap (λ (l : List ℕ). readData (take (frameEnd (length body)) l)) (v (List ℕ) (λ _. out) whole) ∙ ap readData front ∙ read;
+            bytes = ap (written (length body)) (v (List ℕ) (λ _. out) whole) ∙ (λ i. found (readData (front i)) (front i)) ∙ ap (λ (r : DataRead). found r frame) read ∙ (λ i. record { at = head .offset; len = length body; changing = head .changing; bytes = body-held head body i });
           })
 
   -- what the history holds of the call

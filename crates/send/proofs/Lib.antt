@@ -4,4 +4,6 @@ pub mod Bytes
 pub mod Demand
 pub mod Image
 pub mod Pointer
+pub mod Address
 pub mod Plain
+pub mod Words

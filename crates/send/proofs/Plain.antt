@@ -21,7 +21,7 @@ pub record Plainly (bound : ℕ) (s t : Transfer) (h g : List Entry) : Type 0 wh
   pub state : plainly.run bound calls s ≡ t
   pub same : log.history bound calls s h ≡ g
 
-frame-step : (bound : ℕ) (s : Transfer) → plainly.stepOf bound plainly.Call.frame s ≡ frameStep bound s
+pub frame-step : (bound : ℕ) (s : Transfer) → plainly.stepOf bound plainly.Call.frame s ≡ frameStep bound s
 unfolding plainly.stepOf
 frame-step bound s = refl
 

@@ -11,6 +11,11 @@ pub data Call : Type 0 where
   -- hashed destination, hashed source and tag, the data, and the output as it was
   next : ℕ → ℕ → ℕ → List ℕ → List ℕ → Call
 
+-- a next-frame call is a frame call that writes its frame
+abbrev pub plainOf : Call → plainly.Call
+plainOf (plain c) = c
+plainOf (next destination source tag body out) = plainly.Call.frame
+
 abbrev pub stepOf : ℕ → Call → Transfer → Stepped
 stepOf bound (plain c) s = plainly.stepOf bound c s
 stepOf bound (next destination source tag body out) s = nextStep bound s (headOf s destination source tag) body out

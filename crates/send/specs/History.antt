@@ -6,14 +6,16 @@ use mathlib.Core.Logic.{_⊎_}
 use mathlib.Core.Path.{_≡_}
 use lib.ListN.{length, getD, take, drop}
 use Rattle.ssp_frame.specs.Data.{frameEnd, readData}
+use Rattle.ssp_frame.specs.declared.data.DataFrame.{DataFrame}
 use Rattle.ssp_frame.specs.declared.data.DataRead.{DataRead}
 use Rattle.ssp_frame.specs.declared.data.DataRead.the-variants.{Frame as Data, Refused as NotData}
 use Rattle.transfer.specs.Calls as plainly
 use Rattle.transfer.specs.Log.{nextFrame}
 use Rattle.transfer.specs.History.{Frame, EntryOf, started, sent, acked, naked, timedOut, wasLost, ended, Entry, entries}
+use Rattle.transfer.specs.Words.{Asked, askedAfter}
 use Rattle.transfer.specs.declared.Transfer.{Transfer}
 use Rattle.send.specs.Send.{changingOf, headOf, nextBytes}
-use Rattle.send.specs.Calls.{Call, plain, next, stepOf}
+use Rattle.send.specs.Calls.{Call, plain, next, plainOf, stepOf}
 
 -- what is known of a frame that went: where its data lies, how long it is, its changing data pointer, and the data
 pub record Shot : Type 0 where
@@ -31,6 +33,21 @@ found (NotData k) frame = record { at = 0; len = 0; changing = 0; bytes = [] }
 abbrev pub written : ℕ → List ℕ → Shot
 written n out = found (readData (take (frameEnd n) out)) (take (frameEnd n) out)
 
+-- the output as a next-frame call leaves it; a plain call has none
+abbrev pub outputOf : ℕ → Call → Transfer → List ℕ
+outputOf bound (plain c) s = []
+outputOf bound (next destination source tag body out) s = nextBytes bound s (headOf s destination source tag) body out
+
+-- 01 DATA.1: the DATA reader takes the frame of n bytes of data at the front of the output, and finds in it these addresses, tag and offset
+pub record Addressed (out : List ℕ) (n destination source tag offset : ℕ) : Type 0 where
+  pub frame : DataFrame
+  pub taken : readData (take (frameEnd n) out) ≡ Data frame
+  pub destined : frame .head .destination ≡ destination
+  pub sourced : frame .head .source ≡ source
+  pub tagged : frame .head .tag ≡ tag
+  pub placed : frame .head .offset ≡ offset
+  pub long : frame .length ≡ n
+
 -- the frame that a plain frame call sends, of whose bytes nothing is known but what they are to say
 abbrev pub unwritten : Transfer → Shot
 unwritten s = record { at = nextFrame s .at; len = nextFrame s .len; changing = changingOf s; bytes = [] }
@@ -44,6 +61,11 @@ shotsOf bound (next destination source tag body out) s = entries plainly.Call.fr
 abbrev pub history : ℕ → List Call → Transfer → List (EntryOf Shot) → List (EntryOf Shot)
 history bound [] s h = h
 history bound (c ∷ cs) s h = history bound cs (stepOf bound c s .state) (shotsOf bound c s ++ h)
+
+-- the numbers of the last START that was taken of some calls of s, a where none was
+abbrev pub asked : ℕ → List Call → Transfer → Asked → Asked
+asked bound [] s a = a
+asked bound (c ∷ cs) s a = asked bound cs (stepOf bound c s .state) (askedAfter (plainOf c) (stepOf bound c s .answer) a)
 
 -- offset and length alone, as demand 3 reads them
 abbrev pub frameOf : Shot → Frame
