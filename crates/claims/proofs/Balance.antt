@@ -10,7 +10,7 @@ use native.Mathlib.Omega.{arith}
 use Rattle.transfer.specs.Rules.{endOf, before, frames as framesIn}
 use Rattle.transfer.specs.Steps.{limit, unfinished}
 use Rattle.transfer.specs.Demand.{Demand3}
-use Rattle.transfer.specs.History.{Frame, Entry, sent, view, firstResent, framesSent, Covered}
+use Rattle.transfer.specs.History.{Frame, Entry, sent, isRefused, view, firstResent, framesSent, Covered}
 use Rattle.transfer.specs.declared.Transfer.{Transfer}
 use Rattle.transfer.specs.declared.Stepped.{Stepped}
 use Rattle.transfer.specs.declared.Answer.{Answer}
@@ -18,7 +18,8 @@ use Rattle.transfer.specs.declared.Phase.{Phase}
 use Rattle.transfer.specs.Calls as plainly
 use Rattle.transfer.proofs.Stuck.{unstuck}
 use Rattle.send.specs.Calls.{Call, stepOf, run, Typed, AllTyped}
-use Rattle.send.specs.History.{Shot, shotsOf, history, frames, FromImage, AllFromImage, Shown}
+use Rattle.send.specs.History.{Shot, outputOf, Addressed, shotsOf, history, frames, FromImage, AllFromImage, Shown}
+use Rattle.send.proofs.Address.{addressed}
 use Rattle.send.proofs.Demand.{demand-3}
 use Rattle.send.proofs.Image.{delivered}
 use Rattle.send.proofs.Pointer.{changing-is}
@@ -32,16 +33,16 @@ pub record Run : Type 0 where
   pub tagged : Typed last
 
 -- the transfer before the last call, its history, what the last call adds to it, and what it answers
-abbrev now : Run → Transfer
+abbrev pub now : Run → Transfer
 now r = run limit (r .calls) before
 
-abbrev past : Run → List Entry
+abbrev pub past : Run → List Entry
 past r = frames (history limit (r .calls) before [])
 
-abbrev added : Run → List Entry
+abbrev pub added : Run → List Entry
 added r = frames (shotsOf limit (r .last) (now r))
 
-abbrev next : Run → Stepped
+abbrev pub next : Run → Stepped
 next r = stepOf limit (r .last) (now r)
 
 -- 01 READ.3 01 READ.7 01 READ.12 01 READ.15
@@ -70,6 +71,10 @@ pub record Balance : Type 0 where
   -- 01 DATA.1
   -- a frame's changing data pointer is one exactly if its attempt is a resend in which none went before it, by the history
   pub changing : (r : Run) (f : Shot) → shotsOf limit (r .last) (now r) ≡ sent f ∷ [] → f .changing ≡ cond (firstResent (view (past r))) 1 0
+  -- 01 DATA.1
+  -- the DATA reader takes the frame that a next-frame call wrote to the front of its output, and finds in it the hashed destination, the
+  -- hashed source and the tag that the call was given, and the read offset before the frame
+  pub addressed : (r : Run) (destination source tag : ℕ) (body out : List ℕ) → r .last ≡ Call.next destination source tag body out → isRefused (next r .answer) ≡ false → Addressed (outputOf limit (r .last) (now r)) (length body) destination source tag (now r .read)
   -- what the depth computation lost: with the bytes of one image lent to each next-frame call at its offset, at "delivered" the
   -- payloads that the DATA reader finds in the ACKed frames' bytes cover the request, byte for byte of that image
   pub image : (r : Run) (image : List ℕ) → AllFromImage image limit (r .calls) before → FromImage image (r .last) (now r) → next r .answer ≡ Answer.Done → (x : ℕ) → now r .offset ≤ x → x < endOf (now r) → Shown image x (view (shotsOf limit (r .last) (now r) ++ history limit (r .calls) before []) .acked)
@@ -95,6 +100,7 @@ balance = record {
   all-acked = λ r. all r .all-acked;
   all-done = λ r. all r .all-done;
   changing = λ r. changing-is limit (r .calls) (r .last) (r .typed) (r .tagged);
+  addressed = λ r. addressed limit (now r) (r .last) (r .tagged);
   image = λ r image given this. delivered image limit (r .calls) (r .last) (r .typed) (r .tagged) given this;
   unstuck = λ s. unstuck limit (omega arith) s;
   ends = λ r. sends-end limit (r .calls) (r .typed);

@@ -22,3 +22,4 @@ pub mod Total
 pub mod Unique
 pub mod Waits
 mod Walked
+pub mod Words
