@@ -19,7 +19,7 @@ use Rattle.transfer.specs.Calls as plainly
 use Rattle.transfer.proofs.Stuck.{unstuck}
 use Rattle.send.specs.Calls.{Call, stepOf, run, Typed, AllTyped}
 use Rattle.send.specs.History.{Shot, outputOf, Addressed, shotsOf, history, frames, FromImage, AllFromImage, Shown}
-use Rattle.send.proofs.Address.{addressed}
+use Rattle.send.proofs.Address.{addressed-by}
 use Rattle.send.proofs.Demand.{demand-3}
 use Rattle.send.proofs.Image.{delivered}
 use Rattle.send.proofs.Pointer.{changing-is}
@@ -100,7 +100,7 @@ balance = record {
   all-acked = λ r. all r .all-acked;
   all-done = λ r. all r .all-done;
   changing = λ r. changing-is limit (r .calls) (r .last) (r .typed) (r .tagged);
-  addressed = λ r. addressed limit (now r) (r .last) (r .tagged);
+  addressed = λ r. addressed-by limit (now r) (r .last) (r .tagged);
   image = λ r image given this. delivered image limit (r .calls) (r .last) (r .typed) (r .tagged) given this;
   unstuck = λ s. unstuck limit (omega arith) s;
   ends = λ r. sends-end limit (r .calls) (r .typed);

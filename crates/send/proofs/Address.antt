@@ -19,8 +19,8 @@ module _ (bound : ℕ) (s : Transfer) where
   abbrev Carries : (destination source tag : ℕ) (body : List ℕ) → Call → Type 0
   Carries destination source tag body c = Typed c → isRefused (stepOf bound c s .answer) ≡ false → Addressed (outputOf bound c s) (length body) destination source tag (s .read)
 
-  carries : (destination source tag : ℕ) (body out : List ℕ) → Carries destination source tag body (next destination source tag body out)
-  carries destination source tag body out typed went = by (outcome bound s destination source tag body out typed)
+  addressed : (destination source tag : ℕ) (body out : List ℕ) → Carries destination source tag body (next destination source tag body out)
+  addressed destination source tag body out typed went = by (outcome bound s destination source tag body out typed)
     where
       by : Outcome bound s destination source tag body out typed → Addressed (outputOf bound (next destination source tag body out) s) (length body) destination source tag (s .read)
       by (kept k) = impossible (sym went ∙ ap (λ (st : Stepped). isRefused (st .answer)) (k .step))
@@ -35,6 +35,6 @@ module _ (bound : ℕ) (s : Transfer) where
             long = refl;
           }
 
-  pub addressed : (c : Call) → Typed c → (destination source tag : ℕ) (body out : List ℕ) → c ≡ next destination source tag body out → isRefused (stepOf bound c s .answer) ≡ false
+  pub addressed-by : (c : Call) → Typed c → (destination source tag : ℕ) (body out : List ℕ) → c ≡ next destination source tag body out → isRefused (stepOf bound c s .answer) ≡ false
       → Addressed (outputOf bound c s) (length body) destination source tag (s .read)
-  addressed c typed destination source tag body out e = subst⁻¹ (Carries destination source tag body) e (carries destination source tag body out) typed
+  addressed-by c typed destination source tag body out e = subst⁻¹ (Carries destination source tag body) e (addressed destination source tag body out) typed
