@@ -13,4 +13,5 @@ pub mod Stuck
 pub mod Endless
 pub mod Refusals
 pub mod Three
+pub mod Refused
 pub mod Examples

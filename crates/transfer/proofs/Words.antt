@@ -123,24 +123,25 @@ module _ (bound : ℕ) (s : Transfer) (h : List Entry) (i : Inv bound s (view h)
   abbrev Says : Call → Stepped → Type 0
   Says c st = wordOf (st .answer) ≡ wordBy (askedOf s) h c
 
-  module _ (u : unfinished (s .phase) ≡ true) (some : 0 < s .unanswered) where
-    due-is : eqb (s .unanswered - 1) 0 ≡ lastDue (view h)
-    due-is = one-due (s .unanswered) (length (view h .waiting)) (count bound s h i (work (s .phase) u)) some
-
+  module _ (u : unfinished (s .phase) ≡ true) where
     nak-is : (p : (s .phase ≡ Phase.Run) ⊎ (s .phase ≡ Phase.Drain)) → draining (s .phase) ≡ view h .nak
     nak-is (inl p) = ap draining p ∙ sym (running bound s (view h) i p .calm)
     nak-is (inr p) = ap draining p ∙ sym (drains bound s (view h) i p .seen)
 
-    nak-seen : draining (s .phase) ≡ view h .nak
+    pub nak-seen : draining (s .phase) ≡ view h .nak
     nak-seen = nak-is (work (s .phase) u)
+
+    pub spent-is : leb (s .resends) (s .used) ≡ leb (s .resends) (resends h)
+    spent-is = ap (leb (s .resends)) (w .used u)
+
+  module _ (u : unfinished (s .phase) ≡ true) (some : 0 < s .unanswered) where
+    pub due-is : eqb (s .unanswered - 1) 0 ≡ lastDue (view h)
+    due-is = one-due (s .unanswered) (length (view h .waiting)) (count bound s h i (work (s .phase) u)) some
 
     last-is : lastEnd (s .offset) (view h .attempt) ≡ s .read
     last-is = let l = tally bound s h i (work (s .phase) u) in last-end (s .offset) (view h .attempt) (s .read) (omega arith) (w .ends u)
 
-    spent-is : leb (s .resends) (s .used) ≡ leb (s .resends) (resends h)
-    spent-is = ap (leb (s .resends)) (w .used u)
-
-    whole-is : allSent s ≡ eqb (lastEnd (s .offset) (view h .attempt)) (endOf s)
+    pub whole-is : allSent s ≡ eqb (lastEnd (s .offset) (view h .attempt)) (endOf s)
     whole-is = ap (λ (x : ℕ). eqb x (endOf s)) (sym last-is)
 
     -- a NAK was reported before
@@ -150,19 +151,19 @@ module _ (bound : ℕ) (s : Transfer) (h : List Entry) (i : Inv bound s (view h)
       drain-tallies =
           by-test (Tallies s h ack) (eqb (s .unanswered - 1) 0)
           (λ t. record {
-            used = λ _. rw (sym nak-seen ∙ d, sym due-is ∙ t) (let n = w .used u in omega arith);
-            ends = λ _. ack-anew (view h .waiting) (view h) (s .balance) (eqb-true _ _ (sym due-is ∙ t)) (sym nak-seen ∙ d);
-            point = rw (sym nak-seen ∙ d) (w .point);
+            used = λ _. rw (sym (nak-seen u) ∙ d, sym due-is ∙ t) (let n = w .used u in omega arith);
+            ends = λ _. ack-anew (view h .waiting) (view h) (s .balance) (eqb-true _ _ (sym due-is ∙ t)) (sym (nak-seen u) ∙ d);
+            point = rw (sym (nak-seen u) ∙ d) (w .point);
           })
           (λ t. record {
-            used = λ _. rw (sym nak-seen ∙ d, sym due-is ∙ t) (w .used u);
+            used = λ _. rw (sym (nak-seen u) ∙ d, sym due-is ∙ t) (w .used u);
             ends = λ _. ack-ends (view h .waiting) (view h) (s .read) (w .ends u);
-            point = rw (sym nak-seen ∙ d) (w .point);
+            point = rw (sym (nak-seen u) ∙ d) (w .point);
           })
 
       drain-word : Says ack (drained (answered s))
       unfolding drained
-      drain-word = by-test (Says ack) (eqb (s .unanswered - 1) 0) (λ t. rw (sym nak-seen ∙ d, sym due-is ∙ t)) (λ t. rw (sym nak-seen ∙ d, sym due-is ∙ t))
+      drain-word = by-test (Says ack) (eqb (s .unanswered - 1) 0) (λ t. rw (sym (nak-seen u) ∙ d, sym due-is ∙ t)) (λ t. rw (sym (nak-seen u) ∙ d, sym due-is ∙ t))
 
     module _ (d : draining (s .phase) ≡ false) where
       run-tallies : Tallies s h ack (cond (eqb (s .unanswered - 1) 0) (settled (answered s)) (say Answer.Ok (answered s)))
@@ -170,16 +171,16 @@ module _ (bound : ℕ) (s : Transfer) (h : List Entry) (i : Inv bound s (view h)
       run-tallies =
           by-test (Tallies s h ack) (eqb (s .unanswered - 1) 0)
           (λ t. by-test (Tallies s h ack) (allSent s)
-          (λ q. over refl (rw (sym nak-seen ∙ d, sym due-is ∙ t) (sym last-is)))
+          (λ q. over refl (rw (sym (nak-seen u) ∙ d, sym due-is ∙ t) (sym last-is)))
           (λ q. record {
-            used = λ _. rw (sym nak-seen ∙ d) (w .used u);
+            used = λ _. rw (sym (nak-seen u) ∙ d) (w .used u);
             ends = λ _. ack-ends (view h .waiting) (view h) (s .read) (w .ends u);
-            point = rw (sym nak-seen ∙ d, sym due-is ∙ t) (sym last-is);
+            point = rw (sym (nak-seen u) ∙ d, sym due-is ∙ t) (sym last-is);
           }))
           (λ t. record {
-            used = λ _. rw (sym nak-seen ∙ d) (w .used u);
+            used = λ _. rw (sym (nak-seen u) ∙ d) (w .used u);
             ends = λ _. ack-ends (view h .waiting) (view h) (s .read) (w .ends u);
-            point = rw (sym nak-seen ∙ d, sym due-is ∙ t) (w .point);
+            point = rw (sym (nak-seen u) ∙ d, sym due-is ∙ t) (w .point);
           })
 
       run-word : Says ack (cond (eqb (s .unanswered - 1) 0) (settled (answered s)) (say Answer.Ok (answered s)))
@@ -187,9 +188,9 @@ module _ (bound : ℕ) (s : Transfer) (h : List Entry) (i : Inv bound s (view h)
       run-word =
           by-test (Says ack) (eqb (s .unanswered - 1) 0)
           (λ t. by-test (Says ack) (allSent s)
-          (λ q. rw (sym nak-seen ∙ d, sym due-is ∙ t, sym whole-is ∙ q))
-          (λ q. rw (sym nak-seen ∙ d, sym due-is ∙ t, sym whole-is ∙ q)))
-          (λ t. rw (sym nak-seen ∙ d, sym due-is ∙ t))
+          (λ q. rw (sym (nak-seen u) ∙ d, sym due-is ∙ t, sym whole-is ∙ q))
+          (λ q. rw (sym (nak-seen u) ∙ d, sym due-is ∙ t, sym whole-is ∙ q)))
+          (λ t. rw (sym (nak-seen u) ∙ d, sym due-is ∙ t))
 
     ack-tallies : Tallies s h ack (acked (answered s))
     unfolding acked
@@ -219,8 +220,8 @@ module _ (bound : ℕ) (s : Transfer) (h : List Entry) (i : Inv bound s (view h)
     nak-word : Says nak (naked (answered s))
     unfolding naked drained
     nak-word =
-        by-test (Says nak) (leb (s .resends) (s .used)) (λ l. rw (sym spent-is ∙ l))
-        (λ l. by-test (Says nak) (eqb (s .unanswered - 1) 0) (λ t. rw (sym spent-is ∙ l, sym due-is ∙ t)) (λ t. rw (sym spent-is ∙ l, sym due-is ∙ t)))
+        by-test (Says nak) (leb (s .resends) (s .used)) (λ l. rw (sym (spent-is u) ∙ l))
+        (λ l. by-test (Says nak) (eqb (s .unanswered - 1) 0) (λ t. rw (sym (spent-is u) ∙ l, sym due-is ∙ t)) (λ t. rw (sym (spent-is u) ∙ l, sym due-is ∙ t)))
 
     drop-tallies : (c : Call) → Tallies s h c (finished Answer.Fail Phase.Fail s) → Tallies s h c (resent (noneLeft s)) → Tallies s h c (dropped s)
     unfolding dropped
@@ -229,7 +230,7 @@ module _ (bound : ℕ) (s : Transfer) (h : List Entry) (i : Inv bound s (view h)
     -- TIMEOUT and LOST are of one kind
     drop-word : Says timeout (dropped s)
     unfolding dropped
-    drop-word = by-test (Says timeout) (leb (s .resends) (s .used)) (λ l. rw (sym spent-is ∙ l)) (λ l. rw (sym spent-is ∙ l))
+    drop-word = by-test (Says timeout) (leb (s .resends) (s .used)) (λ l. rw (sym (spent-is u) ∙ l)) (λ l. rw (sym (spent-is u) ∙ l))
 
     again : (g : List Entry) → resends g ≡ suc (resends h) → EndsAt (view g .attempt) (s .balance) → s .balance ≡ balanceBy (s .offset) g → Tally (resent (noneLeft s) .state) g
     again g more none same = record { used = λ _. (let n = w .used u in omega arith); ends = λ _. none; point = same }
@@ -276,8 +277,11 @@ all-tallied : (bound : ℕ) (cs : List Call) (s : Transfer) (h : List Entry) →
 all-tallied bound [] s h i w = w
 all-tallied bound (c ∷ cs) s h i w = all-tallied bound cs (stepOf bound c s .state) (entriesOf bound c s ++ h) (keeps bound s h i c) (tallies bound s h i w c)
 
+pub at-start : Tally before []
+at-start = over refl refl
+
 pub tallied : (bound : ℕ) (cs : List Call) → Tally (run bound cs before) (history bound cs before [])
-tallied bound cs = all-tallied bound cs before [] (at-first bound) (over refl refl)
+tallied bound cs = all-tallied bound cs before [] (at-first bound) at-start
 
 -- while unfinished the read offset is the end of the attempt's last frame, or the balance point where none was sent
 pub read-is : (bound : ℕ) (s : Transfer) (h : List Entry) → Inv bound s (view h) → Tally s h → unfinished (s .phase) ≡ true → s .read ≡ lastEnd (s .balance) (view h .attempt)

@@ -5,6 +5,8 @@ use mathlib.Core.Bool.{Bool, true, false, not, cond, _&&_, _||_}
 use mathlib.Core.List.{List, [], _∷_}
 use lib.Dec.{leb, eqb}
 use lib.ListN.{length}
+use Rattle.refusals.specs.Refusals.{numberOf}
+use Rattle.transfer.specs.Rules.{inRange}
 use Rattle.transfer.specs.Calls.{Call, start, frame, ack, nak, timeout, lost, nexus, cancel}
 use Rattle.transfer.specs.History.{Frame, EntryOf, started, sent, acked, naked, timedOut, wasLost, ended, Entry, isRefused, ViewOf, view}
 use Rattle.transfer.specs.declared.Answer.{Answer}
@@ -114,6 +116,10 @@ spent a h = leb (a .resends) (resends h)
 abbrev pub whole : Asked → List Entry → Bool
 whole a h = eqb (lastEnd (a .offset) (view h .attempt)) (a .offset + a .count)
 
+-- 01 READ.9: an ACK now delivers all
+abbrev pub delivers : Asked → List Entry → Bool
+delivers a h = not (view h .nak) && (lastDue (view h) && whole a h)
+
 -- 01 READ.11 01 READ.12: NAK, TIMEOUT and LOST, with R resends used
 abbrev pub failing : Asked → List Entry → Call → Bool
 failing a h c = (kindOf c .nak || kindOf c .drop) && spent a h
@@ -135,9 +141,56 @@ wordBy a h c =
       -- 01 READ.10 01 READ.11 01 READ.12
       retry = not (failing a h c) && (kindOf c .drop || (afterNak h c && lastDue (view h)));
       -- 01 READ.9
-      done = kindOf c .ack && (not (view h .nak) && (lastDue (view h) && whole a h));
+      done = kindOf c .ack && delivers a h;
       -- 01 READ.11 01 READ.12
       fail = failing a h c;
       -- 01 READ.13
       end = kindOf c .end;
     }
+
+-- the transfer is unfinished: the last call that was taken did not finish it
+abbrev pub underway : Asked → List Entry → Bool
+underway a [] = false
+underway a (started ∷ older) = true
+underway a (sent f ∷ older) = true
+underway a (acked ∷ older) = not (delivers a older)
+underway a (naked ∷ older) = not (spent a older)
+underway a (timedOut ∷ older) = not (spent a older)
+underway a (wasLost ∷ older) = not (spent a older)
+underway a (ended ∷ older) = false
+
+-- the number of a refusal, 0 where there is none
+abbrev pub refusalOf : Answer → ℕ
+refusalOf Answer.Ok = 0
+refusalOf Answer.Sent = 0
+refusalOf Answer.Drain = 0
+refusalOf Answer.Retry = 0
+refusalOf Answer.Done = 0
+refusalOf Answer.Fail = 0
+refusalOf Answer.End = 0
+refusalOf (Answer.Refused k) = numberOf k
+
+-- 01 REFUSAL.6 01 REFUSAL.7 01 REFUSAL.8 01 REFUSAL.10 01 REFUSAL.13
+-- what a frame is refused for where at most `bound` frames may be unanswered, x where these causes do not hold
+abbrev pub frameRefusal : ℕ → Asked → List Entry → ℕ → ℕ
+frameRefusal bound a h x = cond (not (underway a h)) 6 (cond (view h .nak) 7 (cond (whole a h) 8 (cond (leb bound (length (view h .waiting))) 10 x)))
+
+-- 01 REFUSAL.6 01 REFUSAL.13: an answer is refused once finished, before START, and with none unanswered
+abbrev pub answerRefusal : Asked → List Entry → ℕ
+answerRefusal a h = cond (not (underway a h) || eqb (length (view h .waiting)) 0) 6 0
+
+-- 01 REFUSAL.13
+abbrev pub endRefusal : Asked → List Entry → ℕ
+endRefusal a h = cond (not (underway a h)) 6 0
+
+-- 01 REFUSAL.3 01 REFUSAL.13
+-- what a call is refused for, 0 if it is taken
+abbrev pub refusalBy : ℕ → Asked → List Entry → Call → ℕ
+refusalBy bound a h (start b n m r) = cond (not (inRange b n m r)) 3 (cond (underway a h) 6 0)
+refusalBy bound a h frame = frameRefusal bound a h 0
+refusalBy bound a h ack = answerRefusal a h
+refusalBy bound a h nak = answerRefusal a h
+refusalBy bound a h timeout = answerRefusal a h
+refusalBy bound a h lost = answerRefusal a h
+refusalBy bound a h nexus = endRefusal a h
+refusalBy bound a h cancel = endRefusal a h
