@@ -26,7 +26,7 @@ use Rattle.transfer.proofs.Calls.{underway}
 use Rattle.send.specs.Send.{fitting, nextStep, nextBytes, Went, isSent, isDone}
 
 -- the causes of its own, by their tests
-abbrev own : Bool → Bool → List Cause
+abbrev pub own : Bool → Bool → List Cause
 own listed fits = (Refusal.Unlisted when not listed) ∷ (Refusal.Length when not fits) ∷ []
 
 -- a frame that is sent is 1 to 1,024 bytes long

@@ -7,3 +7,4 @@ pub mod Pointer
 pub mod Address
 pub mod Plain
 pub mod Words
+pub mod Refused

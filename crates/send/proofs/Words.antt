@@ -84,7 +84,7 @@ module _ (bound : ℕ) (cs : List Call) (typed : AllTyped cs) where
   pub asked-is : askedOf (run bound cs before) ≡ asked bound cs before unasked
   asked-is = all-asked bound cs before typed
 
-  holds : Inv bound (run bound cs before) (view (frames (history bound cs before [])))
+  pub holds : Inv bound (run bound cs before) (view (frames (history bound cs before [])))
   holds = all-sound bound cs before [] typed (at-first bound)
 
   pub tally-is : Tally (run bound cs before) (frames (history bound cs before []))
@@ -93,7 +93,7 @@ module _ (bound : ℕ) (cs : List Call) (typed : AllTyped cs) where
       subst (λ (s : Transfer). Tally s (frames (history bound cs before []))) (p .state) (subst (Tally (plainly.run bound (p .calls) before)) (p .same) (tallied bound (p .calls)))
 
   -- what calls leave passes the test of a state
-  keeps : rules bound (run bound cs before) ≡ true
+  pub keeps : rules bound (run bound cs before) ≡ true
   keeps = let p = as-plain bound cs before [] typed in subst (λ (s : Transfer). rules bound s ≡ true) (p .state) (keeps-rules bound (p .calls))
 
   -- no more resends are used than were allowed

@@ -2,3 +2,4 @@
 pub mod Send
 pub mod Calls
 pub mod History
+pub mod Words
