@@ -11,11 +11,14 @@ use Rattle.transfer.specs.Rules.{before}
 use Rattle.transfer.specs.Steps.{limit, unfinished}
 use Rattle.transfer.specs.Grounds.{OutOfRange}
 use Rattle.transfer.specs.History.{Frame, sent as went, isRefused, View, view}
-use Rattle.transfer.specs.Words.{Asked, unasked, lastDue, resends, lastEnd, balanceBy, Kind, kindOf, Word, wordOf, spent, whole, failing, afterNak, wordBy}
+use Rattle.transfer.specs.Words as history
+use Rattle.transfer.specs.Words.{Asked, unasked, lastDue, resends, lastEnd, balanceBy, Kind, kindOf, Word, wordOf, spent, whole, failing, afterNak, wordBy, refusalOf}
 use Rattle.transfer.specs.declared.Answer.{Answer}
 use Rattle.transfer.proofs.Words.{askedOf}
 use Rattle.send.specs.Calls.{plainOf}
 use Rattle.send.specs.History.{asked}
+use Rattle.send.specs.Words.{refusalBy}
+use Rattle.send.proofs.Refused.{lives, refusal-is}
 use Rattle.send.proofs.Words.{asked-is, tally-is, allowed, reads, word-is, never-three, stays-either, frame-is}
 use Rattle.claims.proofs.Balance.{Run, now, past, added, next}
 
@@ -82,6 +85,12 @@ pub record Words : Type 0 where
   -- 01 READ.2 01 READ.6
   -- a frame goes at the read offset, and is min(M, B+N - read offset) long
   pub goes : (r : Run) (f : Frame) → added r ≡ went f ∷ [] → (f .at ≡ now r .read) × (f .len ≡ min (request r .size) (request r .offset + request r .count - f .at))
+  -- 01 REFUSAL.13
+  -- before START, and once finished: by the last call that was taken
+  pub underway : (r : Run) → unfinished (now r .phase) ≡ history.underway (request r) (past r)
+  -- 01 REFUSAL.3 01 REFUSAL.6 01 REFUSAL.7 01 REFUSAL.8 01 REFUSAL.10 01 REFUSAL.11 01 REFUSAL.13
+  -- the number of a refusal, 0 where there is none, is what the numbers asked for, the frames and the answers say
+  pub refuses : (r : Run) → refusalOf (next r .answer) ≡ refusalBy limit (request r) (past r) (r .last)
   -- 01 REFUSAL.3
   -- no call answers refusal 3, but a START whose own numbers are out of range, and that one does
   pub never-three : (r : Run) → (next r .answer ≡ Answer.Refused Refusal.Rules) ↔ OutOfRange (plainOf (r .last))
@@ -119,5 +128,7 @@ words = record {
   balances = λ r. tally-is limit (r .calls) (r .typed) .point ∙ ap (λ (a : Asked). balanceBy (a .offset) (past r)) (numbers r);
   stays = λ r. stays-either limit (now r) (r .last) (r .tagged);
   goes = goes-run;
+  underway = λ r. lives limit (r .calls) (r .typed) ∙ ap (λ (a : Asked). history.underway a (past r)) (numbers r);
+  refuses = λ r. refusal-is limit (r .calls) (r .typed) (r .last);
   never-three = λ r. never-three limit (r .calls) (r .typed) (r .last) (r .tagged);
 }
