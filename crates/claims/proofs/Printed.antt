@@ -6,10 +6,10 @@ use mathlib.Core.Bool.{true, false}
 use mathlib.Core.List.{List, [], _∷_, _++_}
 use mathlib.Core.Path.{_≡_, sym, _∙_}
 use lib.ListN.{length}
-use Rattle.transfer.specs.History.{Frame, View, sent, view, Covered}
+use Rattle.transfer.specs.History.{Frame, View, sent, isRefused, view, Covered}
 use Rattle.transfer.specs.declared.Answer.{Answer}
 use Rattle.runs.specs.Turns.{Turn, turnsOf, Read}
-use Rattle.runs.specs.Told.{Tale, untold, adds, told, Holds, Leads}
+use Rattle.runs.specs.Told.{Tale, untold, adds, told, wordsFor, Among, Holds, Leads}
 use Rattle.runs.proofs.Shown.{one-reading}
 use Rattle.runs.proofs.Told.{read-out, told-holds, told-leads}
 
@@ -47,6 +47,9 @@ pub record Printed : Type 0 where
   -- Frames and answers are never matched by a short number."
   pub counted : (p : Place) → tale p .going ≡ true → tale p .unanswered ≡ length (seen p .waiting)
   pub over : (p : Place) → tale p .going ≡ false → tale p .unanswered ≡ 0
+  -- 01 TEXT.2
+  -- a line that is not refused has one of its command's words
+  pub words : (p : Place) (t : Turn) (more : List Turn) → p .rest ≡ t ∷ more → isRefused (t .shown .word) ≡ false → Among (t .shown .word) (wordsFor (t .said))
 
 all : (p : Place) → Holds (tale p)
 all p = told-holds (p .input) (p .past) (p .rest) (p .read)
@@ -66,4 +69,5 @@ printed = record {
   few = λ p. all p .few;
   counted = λ p. all p .counted;
   over = λ p. all p .over;
+  words = λ p t more e. here p t more e .says;
 }

@@ -8,4 +8,5 @@ pub mod Output
 pub mod Listing
 pub mod Facts
 pub mod Shown
+mod Words
 pub mod Told

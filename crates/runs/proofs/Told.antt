@@ -7,7 +7,7 @@ use mathlib.Core.Path.{_≡_, refl, sym, ap, _∙_, subst}
 use native.Mathlib.Omega.{arith}
 use borrow.Author.Tests.{not-false}
 use lib.Dec.{eqb, leb}
-use Rattle.laws.proofs.Bools.{by-test}
+use Rattle.laws.proofs.Bools.{impossible, by-test}
 use Rattle.refusals.proofs.Causes.{by-causes}
 use Rattle.refusals.specs.Causes.{refuse}
 use Rattle.refusals.specs.declared.Refusal.{Refusal}
@@ -29,8 +29,9 @@ use Rattle.runs.specs.Feed.{next}
 use Rattle.runs.specs.Rows.{row}
 use Rattle.runs.specs.Output.{rows, outputOf}
 use Rattle.runs.specs.Turns.{Turn, turnOf, turns, turnsOf, shownBytes, Read}
-use Rattle.runs.specs.Told.{Tale, untold, byStart, adds, asked, goesOn, tell, told, Holds, Leads}
+use Rattle.runs.specs.Told.{Tale, untold, byStart, adds, asked, goesOn, tell, told, wordsFor, Holds, Leads}
 use Rattle.runs.proofs.Shown.{one-reading}
+use Rattle.runs.proofs.Words.{Has, said-word}
 use Rattle.runs.specs.declared.Command.{Command}
 use Rattle.runs.specs.declared.Command.the-variants.{Start, Frame, Ack, Nak, Timeout, Lost, Nexus, Cancel, Bad}
 
@@ -152,8 +153,8 @@ module _ (k : ℕ) (s : Transfer) (w : Tale) (a : Agree s w) where
   calls-agree : (c : Command) (call : Call) →
       let st = stepOf limit call s in
       let t = turnOf k c st in
-      entriesOf limit call s ≡ adds w t → Follows s (asked (λ b n. b) (w .offset) t) (asked (λ b n. n) (w .count) t) st → Step k c st w
-  calls-agree c call tells asks =
+      Has (wordsFor c) st → entriesOf limit call s ≡ adds w t → Follows s (asked (λ b n. b) (w .offset) t) (asked (λ b n. n) (w .count) t) st → Step k c st w
+  calls-agree c call word tells asks =
       let h = w .history in
       let st = stepOf limit call s in
       let d = demand limit s h (a .sound) call in
@@ -172,12 +173,13 @@ module _ (k : ℕ) (s : Transfer) (w : Tale) (a : Agree s w) where
             record {
               resend = λ f e none. d .resend f (tells ∙ e) none ∙ sym (a .balance);
               delivers = λ e x l u. subst (λ (es : List Entry). Covered x (view (es ++ h) .acked)) tells (d .delivered e x (omega (arith, a .offset)) (omega (arith, a .offset, a .count)));
+              says = word;
             };
       }
 
   -- a line that asks for nothing, whatever its word
-  stays-agree : (c : Command) (call : Call) → ((which : ℕ → ℕ → ℕ) (x : ℕ) → byStart which x c ≡ x) → let st = stepOf limit call s in entriesOf limit call s ≡ adds w (turnOf k c st) → Stays limit s st → Step k c st w
-  stays-agree c call quiet tells stays = calls-agree c call tells (record { offset = none (λ b n. b) (w .offset) ∙ a .offset ∙ stays .offset; count = none (λ b n. n) (w .count) ∙ a .count ∙ stays .count; going = stays .going })
+  stays-agree : (c : Command) (call : Call) → ((which : ℕ → ℕ → ℕ) (x : ℕ) → byStart which x c ≡ x) → let st = stepOf limit call s in Has (wordsFor c) st → entriesOf limit call s ≡ adds w (turnOf k c st) → Stays limit s st → Step k c st w
+  stays-agree c call quiet word tells stays = calls-agree c call word tells (record { offset = none (λ b n. b) (w .offset) ∙ a .offset ∙ stays .offset; count = none (λ b n. n) (w .count) ∙ a .count ∙ stays .count; going = stays .going })
     where
       none : (which : ℕ → ℕ → ℕ) (x : ℕ) → asked which x (turnOf k c (stepOf limit call s)) ≡ x
       none which x = by-test (λ (y : ℕ). y ≡ x) (isRefused (stepOf limit call s .answer)) (λ t. refl) (λ t. quiet which x)
@@ -202,19 +204,19 @@ module _ (k : ℕ) (s : Transfer) (w : Tale) (a : Agree s w) where
   bad-step =
       record {
         agree = record { offset = a .offset; count = a .count; going = a .going; read = refl; balance = refl; unanswered = refl; sound = a .sound };
-        leads = record { resend = λ f e none. absurd (apart (cc)); delivers = λ e. absurd (apart (cc)) };
+        leads = record { resend = λ f e none. absurd (apart (cc)); delivers = λ e. absurd (apart (cc)); says = λ e. impossible (sym e) };
       }
 
   pub step : (c : Command) → Step k c (obeyed c s) w
   unfolding obeyed
-  step (Start b n m r) = calls-agree (Start b n m r) (start b n m r) refl (start-asks b n m r)
-  step Frame = stays-agree Frame frame (λ which x. refl) frame-told (stays-frame limit s)
-  step Ack = stays-agree Ack ack (λ which x. refl) refl (stays-ack limit s)
-  step Nak = stays-agree Nak nak (λ which x. refl) refl (stays-nak limit s)
-  step Timeout = stays-agree Timeout timeout (λ which x. refl) refl (stays-timeout limit s)
-  step Lost = stays-agree Lost lost (λ which x. refl) refl (stays-lost limit s)
-  step Nexus = stays-agree Nexus nexus (λ which x. refl) refl (stays-nexus limit s)
-  step Cancel = stays-agree Cancel cancel (λ which x. refl) refl (stays-cancel limit s)
+  step (Start b n m r) = calls-agree (Start b n m r) (start b n m r) (said-word s (Start b n m r)) refl (start-asks b n m r)
+  step Frame = stays-agree Frame frame (λ which x. refl) (said-word s Frame) frame-told (stays-frame limit s)
+  step Ack = stays-agree Ack ack (λ which x. refl) (said-word s Ack) refl (stays-ack limit s)
+  step Nak = stays-agree Nak nak (λ which x. refl) (said-word s Nak) refl (stays-nak limit s)
+  step Timeout = stays-agree Timeout timeout (λ which x. refl) (said-word s Timeout) refl (stays-timeout limit s)
+  step Lost = stays-agree Lost lost (λ which x. refl) (said-word s Lost) refl (stays-lost limit s)
+  step Nexus = stays-agree Nexus nexus (λ which x. refl) (said-word s Nexus) refl (stays-nexus limit s)
+  step Cancel = stays-agree Cancel cancel (λ which x. refl) (said-word s Cancel) refl (stays-cancel limit s)
   step Bad = bad-step
 
 -- ---- any place in a run

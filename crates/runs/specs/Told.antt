@@ -4,6 +4,7 @@
 use Prim.Native.Nat.{ℕ, _+_, _-_, _≤_, _<_}
 use mathlib.Core.Bool.{Bool, true, false, cond}
 use mathlib.Core.List.{List, [], _∷_, _++_}
+use mathlib.Core.Logic.{_⊎_}
 use mathlib.Core.Path.{_≡_}
 use lib.ListN.{length}
 use Rattle.transfer.specs.History.{Frame as Sent, Entry, started, sent, acked, naked, timedOut, wasLost, ended, isRefused, view, Covered}
@@ -86,6 +87,23 @@ abbrev pub told : Tale → List Turn → Tale
 told w [] = w
 told w (t ∷ ts) = told (tell w t) ts
 
+-- the words that a command may get, where it is not refused: an answer leaves frames to be answered or not, drains or not, and ends
+-- the transfer or not
+abbrev pub wordsFor : Command → List Answer
+wordsFor (Start b n m r) = Answer.Ok ∷ []
+wordsFor Frame = Answer.Sent ∷ []
+wordsFor Ack = Answer.Ok ∷ Answer.Drain ∷ Answer.Retry ∷ Answer.Done ∷ []
+wordsFor Nak = Answer.Drain ∷ Answer.Retry ∷ Answer.Fail ∷ []
+wordsFor Timeout = Answer.Retry ∷ Answer.Fail ∷ []
+wordsFor Lost = Answer.Retry ∷ Answer.Fail ∷ []
+wordsFor Nexus = Answer.End ∷ []
+wordsFor Cancel = Answer.End ∷ []
+wordsFor Bad = []
+
+abbrev pub Among : Answer → List Answer → Type 0
+Among a [] = ⊥
+Among a (b ∷ bs) = (a ≡ b) ⊎ Among a bs
+
 -- ---- demand 3, sentence by sentence
 
 -- of what was told
@@ -108,3 +126,5 @@ pub record Leads (w : Tale) (t : Turn) : Type 0 where
   pub resend : (f : Sent) → adds w t ≡ sent f ∷ [] → view (w .history) .attempt ≡ [] → f .at ≡ w .balance
   -- "delivered" is answered only once every requested byte was ACKed;"
   pub delivers : t .shown .word ≡ Answer.Done → (x : ℕ) → w .offset ≤ x → x < w .offset + w .count → Covered x (view (adds w t ++ w .history) .acked)
+  -- and its word is one of its command's
+  pub says : isRefused (t .shown .word) ≡ false → Among (t .shown .word) (wordsFor (t .said))
