@@ -1,5 +1,5 @@
--- Document 01, 'Port': times, read from the calls that were taken and from their answers alone: when a request was retried, when it was
--- opened since its last reset, from when a destination's loss timer runs. No state is read here. Assumes nothing.
+-- Document 01, 'Port': its times a second time, read from the calls that were taken and from their answers alone: when a request was
+-- retried, when it was opened since its last reset, from when a destination's loss timer runs. No state is read here. Assumes nothing.
 use Prim.Native.Nat.{ℕ, _+_, _*_}
 use mathlib.Core.Bool.{Bool, true, false, not, cond, _&&_, _||_}
 use mathlib.Core.List.{List, [], _∷_}

@@ -1,4 +1,4 @@
--- Document 01, 'Read transfer': readrun's lines and words, typed as bytes. Assumes nothing.
+-- Document 01, 'Read transfer': readrun's lines and words a second time, typed as bytes. Assumes nothing.
 use Prim.Native.Nat.{ℕ}
 use mathlib.Core.List.{List, [], _∷_}
 use Rattle.refusals.specs.declared.Refusal.{Refusal}

@@ -38,7 +38,7 @@ abbrev pub outputOf : ℕ → Call → Transfer → List ℕ
 outputOf bound (plain c) s = []
 outputOf bound (next destination source tag body out) s = nextBytes bound s (headOf s destination source tag) body out
 
--- 01 DATA.1: the DATA reader takes the frame of n bytes of data at the front of the output, and finds in it these addresses, tag and offset
+-- the DATA reader takes the frame of n bytes of data at the front of the output, and finds in it these addresses, tag and offset
 pub record Addressed (out : List ℕ) (n destination source tag offset : ℕ) : Type 0 where
   pub frame : DataFrame
   pub taken : readData (take (frameEnd n) out) ≡ Data frame

@@ -1,4 +1,4 @@
--- What a call of either kind is refused for, by the history. Assumes nothing.
+-- What a call of either kind is refused for, a second time, by the history. Assumes nothing.
 use Prim.Native.Nat.{ℕ, _+_, _-_, _^_, min}
 use mathlib.Core.Bool.{not, cond, _&&_}
 use mathlib.Core.List.{List}

@@ -1,4 +1,4 @@
--- Document 01's layouts, typed: a frame of each kind whose numbers all differ, as C gives and gets them and as its bytes lie.
+-- Document 01's layouts a second time, typed: a frame of each kind whose numbers all differ, as C gives and gets them and as its bytes lie.
 -- Assumes nothing.
 use Prim.Native.Nat.{ℕ}
 use mathlib.Core.List.{List, [], _∷_}

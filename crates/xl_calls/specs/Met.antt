@@ -1,5 +1,5 @@
 -- What a link met and answered, call by call: the state that the event met, the event and its frame, the actions and theirs. What document 01
--- has a link remember is read from these alone. Assumes nothing.
+-- has a link remember is said a second time, read from these alone. Assumes nothing.
 use mathlib.Core.Bool.{Bool, true, false, not, cond, _||_}
 use mathlib.Core.List.{List, [], _∷_}
 use Rattle.open_frame.specs.Open.{readOpen}

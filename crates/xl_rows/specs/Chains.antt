@@ -1,5 +1,5 @@
--- Document 01, 'XL', by events behind each other: what one leaves in memory and a later one does with it, typed out from the first state to the
--- last action. `takes` is what does it. Assumes nothing.
+-- Document 01, 'XL', a second time, by events behind each other: what one leaves in memory and a later one does with it, typed out from the
+-- first state to the last action. `takes` is what does it. Assumes nothing.
 use Prim.Native.Nat.{ℕ}
 use mathlib.Core.Bool.{true, false}
 use mathlib.Core.List.{[], _∷_}
