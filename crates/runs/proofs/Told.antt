@@ -88,37 +88,25 @@ module _ (bound : ℕ) (s : Transfer) where
   on-answer : (st : Stepped) → (unfinished (s .phase) ≡ true → Stays st) → Stays (refuse (refused s) (answerCauses bound s) st)
   on-answer st h = by-causes Stays (refused s) same (answerCauses bound s) st (λ off. h (some-left s (off .1 .0) .0))
 
-  on-end : Stays (endStep bound s)
-  unfolding endStep
-  on-end = by-causes Stays (refused s) same (endCauses bound s) (ended s) (λ off. record { offset = refl; count = refl; going = refl })
-
-  stays-frame : Stays (stepOf bound frame s)
-  unfolding stepOf frameStep
+  stays-frame : Stays (frameStep bound s)
+  unfolding frameStep
   stays-frame = by-causes Stays (refused s) same (frameCauses bound s) (framed (frameLength s) s) (λ off. record { offset = refl; count = refl; going = sym (not-false _ (off .1 .0)) })
 
-  stays-ack : Stays (stepOf bound ack s)
-  unfolding stepOf ackStep
+  stays-ack : Stays (ackStep bound s)
+  unfolding ackStep
   stays-ack = on-answer (acked (answered s)) on-ack
 
-  stays-nak : Stays (stepOf bound nak s)
-  unfolding stepOf nakStep
+  stays-nak : Stays (nakStep bound s)
+  unfolding nakStep
   stays-nak = on-answer (naked (answered s)) (λ u. on-nak)
 
-  stays-timeout : Stays (stepOf bound timeout s)
-  unfolding stepOf dropStep
-  stays-timeout = on-answer (dropped s) (λ u. on-drop)
+  stays-drop : Stays (dropStep bound s)
+  unfolding dropStep
+  stays-drop = on-answer (dropped s) (λ u. on-drop)
 
-  stays-lost : Stays (stepOf bound lost s)
-  unfolding stepOf dropStep
-  stays-lost = on-answer (dropped s) (λ u. on-drop)
-
-  stays-nexus : Stays (stepOf bound nexus s)
-  unfolding stepOf
-  stays-nexus = on-end
-
-  stays-cancel : Stays (stepOf bound cancel s)
-  unfolding stepOf
-  stays-cancel = on-end
+  stays-end : Stays (endStep bound s)
+  unfolding endStep
+  stays-end = by-causes Stays (refused s) same (endCauses bound s) (ended s) (λ off. record { offset = refl; count = refl; going = refl })
 
 -- ---- a line keeps the tale in agreement with the transfer
 
@@ -208,15 +196,15 @@ module _ (k : ℕ) (s : Transfer) (w : Tale) (a : Agree s w) where
       }
 
   pub step : (c : Command) → Step k c (obeyed c s) w
-  unfolding obeyed
+  unfolding obeyed stepOf
   step (Start b n m r) = calls-agree (Start b n m r) (start b n m r) (said-word s (Start b n m r)) refl (start-asks b n m r)
   step Frame = stays-agree Frame frame (λ which x. refl) (said-word s Frame) frame-told (stays-frame limit s)
   step Ack = stays-agree Ack ack (λ which x. refl) (said-word s Ack) refl (stays-ack limit s)
   step Nak = stays-agree Nak nak (λ which x. refl) (said-word s Nak) refl (stays-nak limit s)
-  step Timeout = stays-agree Timeout timeout (λ which x. refl) (said-word s Timeout) refl (stays-timeout limit s)
-  step Lost = stays-agree Lost lost (λ which x. refl) (said-word s Lost) refl (stays-lost limit s)
-  step Nexus = stays-agree Nexus nexus (λ which x. refl) (said-word s Nexus) refl (stays-nexus limit s)
-  step Cancel = stays-agree Cancel cancel (λ which x. refl) (said-word s Cancel) refl (stays-cancel limit s)
+  step Timeout = stays-agree Timeout timeout (λ which x. refl) (said-word s Timeout) refl (stays-drop limit s)
+  step Lost = stays-agree Lost lost (λ which x. refl) (said-word s Lost) refl (stays-drop limit s)
+  step Nexus = stays-agree Nexus nexus (λ which x. refl) (said-word s Nexus) refl (stays-end limit s)
+  step Cancel = stays-agree Cancel cancel (λ which x. refl) (said-word s Cancel) refl (stays-end limit s)
   step Bad = bad-step
 
 -- ---- any place in a run
