@@ -9,7 +9,7 @@ use lib.ListN.{length}
 use Rattle.transfer.specs.History.{Frame, View, sent, isRefused, view, Covered}
 use Rattle.transfer.specs.declared.Answer.{Answer}
 use Rattle.runs.specs.Turns.{Turn, turnsOf, Read}
-use Rattle.runs.specs.Told.{Tale, untold, adds, told, wordsFor, Among, Holds, Leads}
+use Rattle.runs.specs.Told.{Tale, untold, goesOn, adds, told, wordsFor, Among, isDrain, Holds, Leads}
 use Rattle.runs.proofs.Shown.{one-reading}
 use Rattle.runs.proofs.Told.{read-out, told-holds, told-leads}
 
@@ -50,6 +50,8 @@ pub record Printed : Type 0 where
   -- 01 TEXT.2
   -- a line that is not refused has one of its command's words
   pub words : (p : Place) (t : Turn) (more : List Turn) → p .rest ≡ t ∷ more → isRefused (t .shown .word) ≡ false → Among (t .shown .word) (wordsFor (t .said))
+  -- and drain exactly if the transfer goes on and a NAK was reported in the present attempt
+  pub drains : (p : Place) (t : Turn) (more : List Turn) → p .rest ≡ t ∷ more → isRefused (t .shown .word) ≡ false → goesOn (t .shown .word) (tale p .going) ≡ true → isDrain (t .shown .word) ≡ view (adds (tale p) t ++ tale p .history) .nak
 
 all : (p : Place) → Holds (tale p)
 all p = told-holds (p .input) (p .past) (p .rest) (p .read)
@@ -70,4 +72,5 @@ printed = record {
   counted = λ p. all p .counted;
   over = λ p. all p .over;
   words = λ p t more e. here p t more e .says;
+  drains = λ p t more e. here p t more e .drains;
 }

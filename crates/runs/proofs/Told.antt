@@ -31,7 +31,7 @@ use Rattle.runs.specs.Output.{rows, outputOf}
 use Rattle.runs.specs.Turns.{Turn, turnOf, turns, turnsOf, shownBytes, Read}
 use Rattle.runs.specs.Told.{Tale, untold, byStart, adds, asked, goesOn, tell, told, wordsFor, Holds, Leads}
 use Rattle.runs.proofs.Shown.{one-reading}
-use Rattle.runs.proofs.Words.{Has, said-word}
+use Rattle.runs.proofs.Words.{Has, said-word, nak-drains}
 use Rattle.runs.specs.declared.Command.{Command}
 use Rattle.runs.specs.declared.Command.the-variants.{Start, Frame, Ack, Nak, Timeout, Lost, Nexus, Cancel, Bad}
 
@@ -145,23 +145,18 @@ module _ (k : ℕ) (s : Transfer) (w : Tale) (a : Agree s w) where
   calls-agree c call word tells asks =
       let h = w .history in
       let st = stepOf limit call s in
+      let es = adds w (turnOf k c st) in
       let d = demand limit s h (a .sound) call in
+      let going : goesOn (st .answer) (w .going) ≡ unfinished (st .state .phase) = ap (goesOn (st .answer)) (a .going) ∙ asks .going in
+      let sound : Inv limit (st .state) (view (es ++ h)) = subst (λ (fs : List Entry). Inv limit (st .state) (view (fs ++ h))) tells (keeps limit s h (a .sound) call) in
       record {
-        agree =
-            record {
-              offset = asks .offset;
-              count = asks .count;
-              going = ap (goesOn (st .answer)) (a .going) ∙ asks .going;
-              read = refl;
-              balance = refl;
-              unanswered = refl;
-              sound = subst (λ (es : List Entry). Inv limit (st .state) (view (es ++ h))) tells (keeps limit s h (a .sound) call);
-            };
+        agree = record { offset = asks .offset; count = asks .count; going = going; read = refl; balance = refl; unanswered = refl; sound = sound };
         leads =
             record {
               resend = λ f e none. d .resend f (tells ∙ e) none ∙ sym (a .balance);
-              delivers = λ e x l u. subst (λ (es : List Entry). Covered x (view (es ++ h) .acked)) tells (d .delivered e x (omega (arith, a .offset)) (omega (arith, a .offset, a .count)));
-              says = word;
+              delivers = λ e x l u. subst (λ (fs : List Entry). Covered x (view (fs ++ h) .acked)) tells (d .delivered e x (omega (arith, a .offset)) (omega (arith, a .offset, a .count)));
+              says = λ q. word q .0;
+              drains = λ q on. word q .1 ∙ nak-drains (st .state) (view (es ++ h)) (st .state .phase) (sym going ∙ on) (sound .live);
             };
       }
 
@@ -192,7 +187,7 @@ module _ (k : ℕ) (s : Transfer) (w : Tale) (a : Agree s w) where
   bad-step =
       record {
         agree = record { offset = a .offset; count = a .count; going = a .going; read = refl; balance = refl; unanswered = refl; sound = a .sound };
-        leads = record { resend = λ f e none. absurd (apart (cc)); delivers = λ e. absurd (apart (cc)); says = λ e. impossible (sym e) };
+        leads = record { resend = λ f e none. absurd (apart (cc)); delivers = λ e. absurd (apart (cc)); says = λ e. impossible (sym e); drains = λ e. impossible (sym e) };
       }
 
   pub step : (c : Command) → Step k c (obeyed c s) w

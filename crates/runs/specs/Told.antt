@@ -104,6 +104,16 @@ abbrev pub Among : Answer → List Answer → Type 0
 Among a [] = ⊥
 Among a (b ∷ bs) = (a ≡ b) ⊎ Among a bs
 
+abbrev pub isDrain : Answer → Bool
+isDrain Answer.Ok = false
+isDrain Answer.Sent = false
+isDrain Answer.Drain = true
+isDrain Answer.Retry = false
+isDrain Answer.Done = false
+isDrain Answer.Fail = false
+isDrain Answer.End = false
+isDrain (Answer.Refused k) = false
+
 -- ---- demand 3, sentence by sentence
 
 -- of what was told
@@ -128,3 +138,5 @@ pub record Leads (w : Tale) (t : Turn) : Type 0 where
   pub delivers : t .shown .word ≡ Answer.Done → (x : ℕ) → w .offset ≤ x → x < w .offset + w .count → Covered x (view (adds w t ++ w .history) .acked)
   -- and its word is one of its command's
   pub says : isRefused (t .shown .word) ≡ false → Among (t .shown .word) (wordsFor (t .said))
+  -- which is drain exactly if the transfer goes on and a NAK was reported in the present attempt
+  pub drains : isRefused (t .shown .word) ≡ false → goesOn (t .shown .word) (w .going) ≡ true → isDrain (t .shown .word) ≡ view (adds w t ++ w .history) .nak
