@@ -11,10 +11,10 @@ use Rattle.transfer.specs.Rules.{before}
 use Rattle.transfer.specs.Steps.{limit, unfinished}
 use Rattle.transfer.specs.Grounds.{OutOfRange}
 use Rattle.transfer.specs.History.{Frame, sent as went, isRefused, View, view}
+use Rattle.transfer.specs.Log.{askedOf}
 use Rattle.transfer.specs.Words as history
 use Rattle.transfer.specs.Words.{Asked, unasked, lastDue, resends, lastEnd, balanceBy, Kind, kindOf, Word, wordOf, spent, whole, failing, afterNak, wordBy, refusalOf}
 use Rattle.transfer.specs.declared.Answer.{Answer}
-use Rattle.transfer.proofs.Words.{askedOf}
 use Rattle.send.specs.Calls.{plainOf}
 use Rattle.send.specs.History.{asked}
 use Rattle.send.specs.Words.{refusalBy}
@@ -43,10 +43,7 @@ word r = wordOf (next r .answer)
 pub record Words : Type 0 where
   -- 01 READ.1 01 READ.5
   -- the transfer holds the numbers of the last START that was taken
-  pub offset : (r : Run) → now r .offset ≡ request r .offset
-  pub count : (r : Run) → now r .count ≡ request r .count
-  pub size : (r : Run) → now r .size ≡ request r .size
-  pub resent : (r : Run) → now r .resends ≡ request r .resends
+  pub asked : (r : Run) → askedOf (now r) ≡ request r
   -- 01 TEXT.2: of a call that is taken, each word exactly if
   -- 01 READ.5 01 READ.8 01 READ.9
   -- ok: START; or an ACK in an attempt with no NAK reported, while frames are unanswered or the last frame does not end at B+N
@@ -86,7 +83,7 @@ pub record Words : Type 0 where
   -- a frame goes at the read offset, and is min(M, B+N - read offset) long
   pub goes : (r : Run) (f : Frame) → added r ≡ went f ∷ [] → (f .at ≡ now r .read) × (f .len ≡ min (request r .size) (request r .offset + request r .count - f .at))
   -- 01 REFUSAL.13
-  -- before START, and once finished: by the last call that was taken
+  -- the transfer is unfinished exactly if the last call that was taken did not finish it
   pub underway : (r : Run) → unfinished (now r .phase) ≡ history.underway (request r) (past r)
   -- 01 REFUSAL.3 01 REFUSAL.6 01 REFUSAL.7 01 REFUSAL.8 01 REFUSAL.10 01 REFUSAL.11 01 REFUSAL.13
   -- the number of a refusal, 0 where there is none, is what the numbers asked for, the frames and the answers say
@@ -111,10 +108,7 @@ goes-run r f e =
 
 pub words : Words
 words = record {
-  offset = λ r. ap (λ (a : Asked). a .offset) (numbers r);
-  count = λ r. ap (λ (a : Asked). a .count) (numbers r);
-  size = λ r. ap (λ (a : Asked). a .size) (numbers r);
-  resent = λ r. ap (λ (a : Asked). a .resends) (numbers r);
+  asked = numbers;
   ok = λ r e. ap (λ (w : Word). w .ok) (told r e);
   sent = λ r e. ap (λ (w : Word). w .sent) (told r e);
   drain = λ r e. ap (λ (w : Word). w .drain) (told r e);

@@ -14,12 +14,13 @@ use Rattle.ssp_frame.specs.Data.{frameEnd, dataListed}
 use Rattle.transfer.specs.Rules.{before, rules}
 use Rattle.transfer.specs.Steps.{unfinished, frameLength, framed, refused, frameCauses}
 use Rattle.transfer.specs.Calls as plainly
+use Rattle.transfer.specs.Log.{askedOf}
 use Rattle.transfer.specs.History.{Entry, view}
 use Rattle.transfer.specs.Words.{Asked, unasked, lastEnd, whole, underway, refusalOf}
 use Rattle.transfer.specs.declared.Transfer.{Transfer}
 use Rattle.transfer.specs.declared.Stepped.{Stepped}
 use Rattle.transfer.proofs.Balance.{Inv}
-use Rattle.transfer.proofs.Words.{askedOf, Tally, read-is}
+use Rattle.transfer.proofs.Words.{Tally, read-is}
 use Rattle.transfer.proofs.Refused.{Lives, frame-refused, refuses, lived}
 use Rattle.send.specs.Send.{headOf, fitting, nextCauses, nextStep}
 use Rattle.send.specs.Calls.{Call, plain, next, stepOf, run, AllTyped}

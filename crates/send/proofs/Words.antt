@@ -11,7 +11,7 @@ use Rattle.refusals.specs.declared.Refusal.{Refusal}
 use Rattle.transfer.specs.Rules.{before, rules}
 use Rattle.transfer.specs.Steps.{unfinished, frameLength, framed}
 use Rattle.transfer.specs.Calls as plainly
-use Rattle.transfer.specs.Log.{nextFrame}
+use Rattle.transfer.specs.Log.{nextFrame, askedOf}
 use Rattle.transfer.specs.Grounds.{OutOfRange}
 use Rattle.transfer.specs.History.{Frame, Entry, sent, entries, isRefused, view}
 use Rattle.transfer.specs.Words.{Asked, unasked, lastEnd, wordOf, wordBy}
@@ -22,7 +22,7 @@ use Rattle.transfer.proofs.Balance.{Inv, at-first}
 use Rattle.transfer.proofs.Calls.{underway}
 use Rattle.transfer.proofs.Exact.{keeps-rules}
 use Rattle.transfer.proofs.Three.{none, unbroken, three}
-use Rattle.transfer.proofs.Words.{askedOf, Asks, asks, Tally, tallied, says, read-is, Stays, stays}
+use Rattle.transfer.proofs.Words.{Asks, asks, Tally, tallied, says, read-is, Stays, stays}
 use Rattle.send.specs.Send.{headOf, nextCauses, nextStep}
 use Rattle.send.specs.Calls.{Call, plain, next, plainOf, stepOf, run, Typed, AllTyped}
 use Rattle.send.specs.History.{unwritten, shotsOf, history, frames, asked}

@@ -18,7 +18,7 @@ use Rattle.transfer.specs.Steps.{refused, say, startCauses, frameCauses,
 use Rattle.transfer.specs.Steps.{dropStep, endStep}
 use Rattle.transfer.specs.Calls.{Call, start, frame, ack, nak, timeout, lost, nexus, cancel, stepOf, run}
 use Rattle.transfer.specs.History.{Frame, Entry, entryOf, entries, isRefused, view}
-use Rattle.transfer.specs.Log.{nextFrame, entriesOf, history}
+use Rattle.transfer.specs.Log.{nextFrame, entriesOf, history, askedOf}
 use Rattle.transfer.specs.Words.{lastEnd, spent, whole, underway, refusalOf, frameRefusal, answerRefusal, endRefusal, refusalBy}
 use Rattle.transfer.specs.declared.Transfer.{Transfer}
 use Rattle.transfer.specs.declared.Stepped.{Stepped}
@@ -30,7 +30,7 @@ use Rattle.transfer.proofs.Calls as known
 use Rattle.transfer.proofs.Balance.{Inv, EndsAt, count, keeps, at-first}
 use Rattle.transfer.proofs.Demand.{unsent}
 use Rattle.transfer.proofs.Refusals.{causesOf, goesOn, step-is, taken}
-use Rattle.transfer.proofs.Words.{askedOf, Tally, tallies, nak-seen, spent-is, due-is, whole-is, at-start}
+use Rattle.transfer.proofs.Words.{Tally, tallies, nak-seen, spent-is, due-is, whole-is, at-start}
 
 -- the transfer is unfinished, by its phase and by the history
 abbrev pub Lives : Transfer → List Entry → Type 0

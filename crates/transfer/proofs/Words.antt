@@ -19,8 +19,8 @@ use Rattle.transfer.specs.Steps.{ended, refused, say, startCauses, frame
 use Rattle.transfer.specs.Steps.{dropStep, endStep}
 use Rattle.transfer.specs.Calls.{Call, start, frame, ack, nak, timeout, lost, nexus, cancel, stepOf, run}
 use Rattle.transfer.specs.History.{Frame, Entry, timedOut, wasLost, entries, isRefused, View, popAck, popNak, view}
-use Rattle.transfer.specs.Log.{nextFrame, entriesOf, history}
-use Rattle.transfer.specs.Words.{Asked, askedAfter, askedBy, lastDue, resends, lastEnd, balanceBy, wordOf, wordBy}
+use Rattle.transfer.specs.Log.{nextFrame, entriesOf, history, askedOf}
+use Rattle.transfer.specs.Words.{askedAfter, askedBy, lastDue, resends, lastEnd, balanceBy, wordOf, wordBy}
 use Rattle.transfer.specs.declared.Transfer.{Transfer}
 use Rattle.transfer.specs.declared.Stepped.{Stepped}
 use Rattle.transfer.specs.declared.Answer.{Answer}
@@ -30,10 +30,6 @@ use Rattle.transfer.proofs.Balance.{Inv, EndsAt, running, drains, count
 use Rattle.transfer.proofs.Demand.{unsent}
 
 -- ---- B, N, M and R
-
--- the state's own
-abbrev pub askedOf : Transfer → Asked
-askedOf s = record { offset = s .offset; count = s .count; size = s .size; resends = s .resends }
 
 -- a call that did st leaves them as the history has them
 abbrev pub Asks : Transfer → Call → Stepped → Type 0

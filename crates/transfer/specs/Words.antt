@@ -1,5 +1,5 @@
--- Document 01's words and columns a second time, by the history: from the numbers that the last START asked for, the frames and answers
--- before a call, and the call itself. No state is read here. Assumes nothing.
+-- Document 01's words, columns and refusals a second time, by the history: from the numbers that the last START asked for, the frames and
+-- answers before a call, and the call itself. No state is read here. Assumes nothing.
 use Prim.Native.Nat.{ℕ, suc, _+_}
 use mathlib.Core.Bool.{Bool, true, false, not, cond, _&&_, _||_}
 use mathlib.Core.List.{List, [], _∷_}
