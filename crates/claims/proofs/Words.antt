@@ -3,18 +3,22 @@
 -- next-frame calls mixed. Assumes nothing.
 use Prim.Native.Nat.{ℕ, _+_, _-_, _≤_, min}
 use mathlib.Core.Bool.{true, false, not, _&&_, _||_}
-use mathlib.Core.List.{[], _∷_}
+use mathlib.Core.List.{[], _∷_, map}
 use mathlib.Core.Logic.{_↔_}
 use mathlib.Core.Path.{_≡_, sym, ap, subst, _∙_}
+use lib.ListN.{replicate}
 use Rattle.refusals.specs.declared.Refusal.{Refusal}
 use Rattle.transfer.specs.Rules.{before}
 use Rattle.transfer.specs.Steps.{limit, unfinished}
+use Rattle.transfer.specs.Calls as plainly
+use Rattle.transfer.specs.Examples.{inRanges, pastRanges}
 use Rattle.transfer.specs.Grounds.{OutOfRange}
 use Rattle.transfer.specs.History.{Frame, sent as went, isRefused, View, view}
 use Rattle.transfer.specs.Log.{askedOf}
 use Rattle.transfer.specs.Words as history
 use Rattle.transfer.specs.Words.{Asked, unasked, lastDue, resends, lastEnd, balanceBy, Kind, kindOf, Word, wordOf, spent, whole, failing, afterNak, wordBy, refusalOf}
 use Rattle.transfer.specs.declared.Answer.{Answer}
+use Rattle.transfer.proofs.Examples.{takes, takes-no-more}
 use Rattle.send.specs.Calls.{plainOf}
 use Rattle.send.specs.History.{asked}
 use Rattle.send.specs.Words.{refusalBy}
@@ -44,6 +48,10 @@ pub record Words : Type 0 where
   -- 01 READ.1 01 READ.5
   -- the transfer holds the numbers of the last START that was taken
   pub asked : (r : Run) → askedOf (now r) ≡ request r
+  -- 01 READ.1
+  -- START takes the least and the largest numbers, and is refused with 3 one past each
+  pub takes : map (λ (c : plainly.Call). plainly.stepOf limit c before .answer) inRanges ≡ replicate 5 Answer.Ok
+  pub takes-no-more : map (λ (c : plainly.Call). plainly.stepOf limit c before .answer) pastRanges ≡ replicate 6 (Answer.Refused Refusal.Rules)
   -- 01 TEXT.2: of a call that is taken, each word exactly if
   -- 01 READ.5 01 READ.8 01 READ.9
   -- ok: START; or an ACK in an attempt with no NAK reported, while frames are unanswered or the last frame does not end at B+N
@@ -109,6 +117,8 @@ goes-run r f e =
 pub words : Words
 words = record {
   asked = numbers;
+  takes = takes;
+  takes-no-more = takes-no-more;
   ok = λ r e. ap (λ (w : Word). w .ok) (told r e);
   sent = λ r e. ap (λ (w : Word). w .sent) (told r e);
   drain = λ r e. ap (λ (w : Word). w .drain) (told r e);

@@ -1,17 +1,19 @@
 -- Document 01's examples, computed by the definitions. Assumes nothing.
 use Prim.Native.Nat.{ℕ, _-_}
 use mathlib.Core.Bool.{true}
-use mathlib.Core.List.{_∷_}
+use mathlib.Core.List.{_∷_, map}
 use mathlib.Core.Path.{_≡_, refl}
 use lib.Dec.{eqb}
 use lib.ListN.{replicate}
 use Rattle.laws.proofs.Bools.{by-test}
 use Rattle.transfer.specs.Rules.{before, placed, phaseRule, rules}
 use Rattle.transfer.specs.Steps.{limit, answered, settled, drained, acked, naked, draining, refused, answerCauses, startStep, frameStep, ackStep, nakStep}
-use Rattle.transfer.specs.Calls.{start, frame, stepOf, run}
-use Rattle.transfer.specs.Examples.{listing, listed, output}
+use Rattle.transfer.specs.Calls.{Call, start, frame, stepOf, run}
+use Rattle.transfer.specs.Examples.{listing, listed, output, inRanges, pastRanges}
 use Rattle.transfer.specs.declared.Transfer.{Transfer}
 use Rattle.transfer.specs.declared.Stepped.{Stepped}
+use Rattle.transfer.specs.declared.Answer.{Answer}
+use Rattle.refusals.specs.declared.Refusal.{Refusal}
 use Rattle.refusals.proofs.Causes.{by-causes}
 
 -- 01 EXAMPLE.5
@@ -23,6 +25,16 @@ p10 = refl
 pub p11 : let s = run limit (start 0 100 4 0 ∷ replicate 16 frame) before in (s .balance ≡ 0) × (s .unanswered ≡ 16)
 unfolding stepOf startStep frameStep rules placed phaseRule
 p11 = (refl, refl)
+
+-- 01 READ.1
+-- START takes the ends of the ranges, and nothing past them
+pub takes : map (λ (c : Call). stepOf limit c before .answer) inRanges ≡ replicate 5 Answer.Ok
+unfolding stepOf startStep rules placed phaseRule
+takes = refl
+
+pub takes-no-more : map (λ (c : Call). stepOf limit c before .answer) pastRanges ≡ replicate 6 (Answer.Refused Refusal.Rules)
+unfolding stepOf startStep rules placed phaseRule
+takes-no-more = refl
 
 -- 01 TRAP.1: adding an ACKed frame's bytes to the balance after an earlier NAK
 -- after a NAK an ACK leaves the balance point where it is

@@ -1,4 +1,4 @@
--- Document 01, 'Proved examples and traps': the lines of a listing. Assumes nothing.
+-- Document 01, 'Proved examples and traps': the lines of a listing; and STARTs at the ends of the ranges of 'Read transfer'. Assumes nothing.
 use Prim.Native.Nat.{ℕ, _+_}
 use mathlib.Core.List.{List, [], _∷_}
 use Rattle.transfer.specs.Calls.{Call, start, frame, ack, nak, stepOf}
@@ -42,3 +42,11 @@ output =
     ∷ line 8 Answer.Sent 8 4 1 1
     ∷ line 9 Answer.Done 8 8 0 1
     ∷ []
+
+-- 01 READ.1: the least and the largest numbers that START takes
+abbrev pub inRanges : List Call
+inRanges = start 0 1 4 0 ∷ start 4294967294 1 4 0 ∷ start 0 4294967295 4 0 ∷ start 0 1 1024 0 ∷ start 0 1 4 255 ∷ []
+
+-- and one past each: N 0, B+N 4,294,967,296, M 0, no multiple of 4 and 1,028, R 256
+abbrev pub pastRanges : List Call
+pastRanges = start 0 0 4 0 ∷ start 4294967295 1 4 0 ∷ start 0 1 0 0 ∷ start 0 1 6 0 ∷ start 0 1 1028 0 ∷ start 0 1 4 256 ∷ []
