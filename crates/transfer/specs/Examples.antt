@@ -43,7 +43,8 @@ output =
     ∷ line 9 Answer.Done 8 8 0 1
     ∷ []
 
--- 01 READ.1: the least and the largest numbers that START takes
+-- 01 READ.1
+-- the least and the largest numbers that START takes
 abbrev pub inRanges : List Call
 inRanges = start 0 1 4 0 ∷ start 4294967294 1 4 0 ∷ start 0 4294967295 4 0 ∷ start 0 1 1024 0 ∷ start 0 1 4 255 ∷ []
 
