@@ -1,5 +1,5 @@
--- What the port says of times is what document 01 says of the calls and answers before, over any calls from a setup on, refused calls and later setups among them: no
--- stamp, no timer and no count of a record is read, but by `timers`, which says what a record's timer is. Assumes nothing.
+-- What the port says of times is what document 01 says of the calls and answers before, over any calls from a setup on, refused calls and
+-- later setups among them: no stamp and no timer is read, but by `lasts` and `timers`, which say what they are. Assumes nothing.
 use Prim.Native.Nat.{ℕ, _+_, _-_, _≤_, _<_}
 use mathlib.Core.Bool.{true, not, _&&_}
 use mathlib.Core.List.{List, _∷_}
@@ -14,9 +14,9 @@ use Rattle.port.specs.History.{Call, steppedBy}
 use Rattle.port_once.specs.Turns.{keyed, Ssp}
 use Rattle.port_once.specs.Runs.{Run, now, past}
 use Rattle.port_once.specs.Marks.{since, cancels}
-use Rattle.port_once.specs.Times.{timeOf, whyOf, isOpen, isNexusLoss, picks, retriesOf, opensOf, firstTime, confirmed, timerOf, lossTime, isDue}
+use Rattle.port_once.specs.Times.{timeOf, whyOf, isOpen, isNexusLoss, picks, retriesOf, opensOf, firstTime, confirmed, timerOf, lossTime, lastTime, isDue}
 use Rattle.port_once.proofs.Times.{rests, waits}
-use Rattle.port_once.proofs.Losses.{timers, losses}
+use Rattle.port_once.proofs.Losses.{lasts, timers, losses}
 
 -- what the call c answers behind some calls
 abbrev said : Run → Call → Answer
@@ -27,6 +27,9 @@ abbrev known : Run → Call → Key
 known r c = keyed (said r c .frame .head)
 
 pub record Times : Type 0 where
+  -- 01 PORT.3 01 REFUSAL.5
+  -- the port's last time is that of the last call that was taken
+  pub lasts : (r : Run) → now r .port .last ≡ lastTime (past r)
   -- 01 PORT.12
   -- choose lets a request go, opens or closes a phy for it only 15 or more microseconds behind its last Retried since its submit
   pub rests : (r : Run) (c : Call) → picks (record { call = c; answer = said r c }) ≡ true → (t : ℕ) (older : List ℕ) → retriesOf (known r c) (past r) ≡ t ∷ older → t + 15 ≤ timeOf c
@@ -44,4 +47,4 @@ pub record Times : Type 0 where
       ≡ isRetried (whyOf c) && (isSsp (said r c .frame .head) && (not (since cancels (known r c) (past r)) && isDue (lossTime (past r)) (timeOf c) (confirmed isStopping isStarting c (timerOf isStopping isStarting (said r c .frame .head .destination) (past r)))))
 
 pub times : Times
-times = record { rests = rests; waits = waits; timers = timers; losses = losses }
+times = record { lasts = lasts; rests = rests; waits = waits; timers = timers; losses = losses }

@@ -106,6 +106,12 @@ isNexusLoss ConnectionLost = false
 isNexusLoss (Status byte) = false
 isNexusLoss (Refused k) = false
 
+-- 01 REFUSAL.5
+-- the time of the last call that was taken
+abbrev pub lastTime : List Entry → ℕ
+lastTime [] = 0
+lastTime (e ∷ older) = timeOf (e .call)
+
 -- ---- of one request
 
 -- the times of the entries of a kind that name x, the latest first, since its submit and since the last entry that begins anew

@@ -9,7 +9,8 @@ use lib.ListN.{set, replicate}
 use Rattle.laws.proofs.Bools.{and-false}
 use Rattle.open_frame.specs.Open.{headListed}
 use Rattle.open_frame.specs.Wait.{waitOf}
-use Rattle.port_parts.specs.Parts.{inRange, none, isSet, isOpening, names, isDisabled, isFree, isWaiting, isSsp}
+use Rattle.open_frame.specs.declared.Head.{Head}
+use Rattle.port_parts.specs.Parts.{inRange, none, isSet, isOpening, names, hasFrameOut, isDisabled, isFree, isWaiting, isSsp}
 use Rattle.port_parts.specs.Reasons.{reasonOf, isListed}
 use Rattle.port_parts.specs.Timer.{isLost}
 use Rattle.port_parts.specs.declared.Phy.{Phy}
@@ -20,6 +21,7 @@ use Rattle.port_parts.specs.declared.Stamp.{Stamp}
 use Rattle.port_rows.specs.Calls.{timed, phyAt, chosen, cancelled, isCancelled, isJoined, setupOf, submitOf, cancelOf, chooseOf, openedOf, openFailedOf, frameStatusOf, closedOf, enableOf, disableOf}
 use Rattle.port_rows.specs.Records.{spread}
 use Rattle.port_rows.specs.declared.Word.the-variants.{StopArb, Close, ConnectionLost, Status, Waiting}
+use Rattle.port_rows.specs.declared.Answer.{Answer}
 use Rattle.port_rows.specs.declared.Loss.{Loss}
 use Rattle.port_rows.specs.declared.Room.{Room}
 use Rattle.port_rows.specs.declared.Wish.{Wish}
@@ -31,6 +33,10 @@ use Rattle.port_rows.specs.declared.Report.{Report}
 -- the port with phy k in a stage, naming slot s, connected as given, at a time
 abbrev put : Port → ℕ → ℕ → ℕ → ℕ → ℕ → ℕ → Port
 put p k stage s protocol destination now = record { count = p .count; loss = p .loss; last = now; phys = set (p .phys) k (record { stage = stage; slot = s; protocol = protocol; destination = destination }) }
+
+-- an answer names this phy, and the request at this slot with this head
+abbrev Names : Answer → ℕ → ℕ → Head → Type 0
+Names a phy slot head = (a .phy ≡ phy) × ((a .slot ≡ slot) × (a .frame .head ≡ head))
 
 -- 01 PORT.1
 -- 01 PORT.2: setup's phys are disabled and name none, and the last time is 0
@@ -98,6 +104,11 @@ module _ (p : Port) (r : Request) (x : Confirmed) (own : ltb (x .phy) (p .count)
   unfolding openedOf
   joins opening wanted = rw (own, due, opening, wanted)
 
+  -- 01 PORT.17: it is said of this phy and its request
+  opened-names : isOpening phy ≡ true → Names (openedOf p r true x .answer) (x .phy) (phy .slot) (r .head)
+  unfolding openedOf
+  opened-names opening = (rw (own, due, opening), (rw (own, due, opening), rw (own, due, opening)))
+
   -- 01 PORT.23: or closing, with none
   joins-closing : isOpening phy ≡ true → isCancelled r ≡ true → (openedOf p r true x .port ≡ put p (x .phy) 5 (phy .slot) (r .head .protocol) (r .head .destination) (x .now)) × (openedOf p r true x .answer .word ≡ Close)
   unfolding openedOf
@@ -117,6 +128,11 @@ module _ (p : Port) (r : Request) (x : Confirmed) (own : ltb (x .phy) (p .count)
   unfolding closedOf
   loses joined named wanted = rw (own, due, joined, named, wanted)
 
+  -- 01 PORT.21: it is said of this phy and its request
+  closed-names : isJoined phy ≡ true → Names (closedOf p r true x .answer) (x .phy) (phy .slot) (r .head)
+  unfolding closedOf
+  closed-names joined = (rw (own, due, joined), (rw (own, due, joined), rw (own, due, joined)))
+
   enables : isDisabled phy ≡ true → enableOf p r true x .port ≡ put p (x .phy) 1 32 0 0 (x .now)
   unfolding enableOf
   enables off = rw (own, due, off)
@@ -132,10 +148,19 @@ module _ (p : Port) (r : Request) (x : Confirmed) (own : ltb (x .phy) (p .count)
   waits-again on named wanted =
       (rw (own, due, on, named, wanted), (rw (own, due, on, wanted), (rw (own, due, on, wanted), (rw (own, due, on, wanted), (rw (own, due, on, wanted), rw (own, due, on, wanted))))))
 
+  disabled-names : isDisabled phy ≡ false → Names (disableOf p r true x .answer) (x .phy) (phy .slot) (r .head)
+  unfolding disableOf
+  disabled-names on = (rw (own, due, on), (rw (own, due, on), rw (own, due, on)))
+
 -- 01 PORT.18: Open Failed: the phy is free
 fails-free : (p : Port) (r : Request) (x : Failure) → isListed (reasonOf (x .why)) ≡ true → ltb (x .phy) (p .count) ≡ true → ltb (x .now) (p .last) ≡ false → isOpening (phyAt p (x .phy)) ≡ true → openFailedOf p r true x .port ≡ put p (x .phy) 1 32 0 0 (x .now)
 unfolding openFailedOf
 fails-free p r x listed own due opening = rw (listed, own, due, opening)
+
+-- 01 PORT.18: it is said of this phy and its request
+failed-names : (p : Port) (r : Request) (x : Failure) → isListed (reasonOf (x .why)) ≡ true → ltb (x .phy) (p .count) ≡ true → ltb (x .now) (p .last) ≡ false → isOpening (phyAt p (x .phy)) ≡ true → Names (openFailedOf p r true x .answer) (x .phy) (phyAt p (x .phy) .slot) (r .head)
+unfolding openFailedOf
+failed-names p r x listed own due opening = (rw (listed, own, due, opening), (rw (listed, own, due, opening), rw (listed, own, due, opening)))
 
 -- a frame's status, of a phy of the port with a frame out, at a time that isn't past
 module _ (p : Port) (r : Request) (x : Report) (own : ltb (x .phy) (p .count) ≡ true) (due : ltb (x .now) (p .last) ≡ false) where
@@ -149,8 +174,18 @@ module _ (p : Port) (r : Request) (x : Report) (own : ltb (x .phy) (p .count) �
   unfolding frameStatusOf
   status-closing out = rw (own, due, out)
 
+  -- 01 PORT.20: it is said of this phy and its request
+  status-names : hasFrameOut (phyAt p (x .phy)) ≡ true → Names (frameStatusOf p r true x .answer) (x .phy) (phyAt p (x .phy) .slot) (r .head)
+  unfolding frameStatusOf
+  status-names out = (rw (own, due, out), (rw (own, due, out), rw (own, due, out)))
+
 -- Cancel of a request in progress, found at slot s
 module _ (p : Port) (r : Request) (s : ℕ) (x : Withdrawn) (listed : ltb (x .key .protocol) 3 ≡ true) (due : ltb (x .now) (p .last) ≡ false) (found : leb 32 s ≡ false) (wanted : isCancelled r ≡ false) (busy : isWaiting r ≡ false) where
+  -- 01 PORT.23: it is said of the request, and of the phy that it is on
+  cancel-names : Names (cancelOf p r true s x .answer) (r .phy) s (r .head)
+  unfolding cancelOf cancelled
+  cancel-names = (rw (listed, due, found, wanted, busy), (rw (listed, due, found, wanted, busy), rw (listed, due, found, wanted, busy)))
+
   -- 01 PORT.23: Stop Arb while opening
   stops-arb : phyAt p (r .phy) .stage ≡ 2 → cancelOf p r true s x .answer .word ≡ StopArb
   unfolding cancelOf cancelled
