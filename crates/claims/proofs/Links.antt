@@ -27,13 +27,13 @@ use Rattle.xl_parts.specs.declared.State.{State}
 use Rattle.xl_parts.specs.declared.Answer.{Answer}
 use Rattle.xl_parts.specs.Parts.{ready}
 use Rattle.xl_rows.specs.Table.{takes}
-use Rattle.xl_rows.specs.Sentences.{oneOf, link, known, BacksOff}
+use Rattle.xl_rows.specs.Sentences.{oneOf, link, known}
 use Rattle.xl.specs.Rules.{rules}
 use Rattle.xl.specs.Steps.{opened, stepOf, receiveOf}
 use Rattle.xl.specs.Status.{statusOf}
 use Rattle.xl_calls.specs.Links.{Call, event, bytes, callOf, run, surprises, brought, frames, names, some, listOf, gapless, Shows, In}
 use Rattle.xl_calls.specs.Met.{transmitted, aipMet, openMet, breakSent, breakForwarded, blockedMet, statusMet, closeMet, sendCloseMet}
-use Rattle.xl_calls.specs.After.{after, history, answers, Answers, Crossed, Remembered, Connected}
+use Rattle.xl_calls.specs.After.{after, history, answers, Crossed, Remembered, Backs, Connected}
 use Rattle.xl_calls.specs.Statuses.{Waits}
 use Rattle.xl_parts.specs.Path.{releases}
 use Rattle.xl_calls.specs.Path.{leavesTo}
@@ -77,12 +77,12 @@ pub record Links : Type 0 where
   -- while no AIP came since the OPEN was transmitted, an OPEN that is not of higher priority does nothing
   pub stands : (cs : List Call) (f g : OpenFrame) → Crossed cs f g → aipMet (history cs) ≡ Seen.Never → higherThan g f ≡ false → stepOf g (Event.Line Primitive.Open) (after cs) ≡ answers (after cs) []
   -- one of higher priority backs off
-  pub overtakes : (cs : List Call) (f g : OpenFrame) → Crossed cs f g → higherThan g f ≡ true → Answers (BacksOff f g [] (after cs .memory .heard) (after cs .memory .close) (after cs .memory .blocked) (after cs .count)) (stepOf g (Event.Line Primitive.Open) (after cs))
+  pub overtakes : (cs : List Call) (f g : OpenFrame) → Crossed cs f g → higherThan g f ≡ true → Backs cs f g [] (after cs .memory .heard) (stepOf g (Event.Line Primitive.Open) (after cs))
   -- once an AIP came, every OPEN backs off
-  pub yields : (cs : List Call) (f g : OpenFrame) (w : Wait) → Crossed cs f g → aipMet (history cs) ≡ Seen.Latest w → Answers (BacksOff f g [] (after cs .memory .heard) (after cs .memory .close) (after cs .memory .blocked) (after cs .count)) (stepOf g (Event.Line Primitive.Open) (after cs))
+  pub yields : (cs : List Call) (f g : OpenFrame) (w : Wait) → Crossed cs f g → aipMet (history cs) ≡ Seen.Latest w → Backs cs f g [] (after cs .memory .heard) (stepOf g (Event.Line Primitive.Open) (after cs))
   -- an OPEN that came in XL5 is taken at Sent as XL6 takes one, behind ArbStatus(Waiting On Device), and forgotten: no AIP can have come
   pub sends-on : (cs : List Call) (e f g : OpenFrame) → Remembered cs f g → higherThan g f ≡ false → stepOf e (Event.Own Notice.Sent) (after cs) ≡ answers (link Phase.Xl6 (known (Held.Frame f) Held.Nothing Seen.Never false (after cs .memory .close) (after cs .memory .blocked)) (after cs .count)) (Action.Send (Message.ArbStatus Wait.Device) ∷ [])
-  pub sends-back : (cs : List Call) (e f g : OpenFrame) → Remembered cs f g → higherThan g f ≡ true → Answers (BacksOff f g (Action.Send (Message.ArbStatus Wait.Device) ∷ []) Held.Nothing (after cs .memory .close) (after cs .memory .blocked) (after cs .count)) (stepOf e (Event.Own Notice.Sent) (after cs))
+  pub sends-back : (cs : List Call) (e f g : OpenFrame) → Remembered cs f g → higherThan g f ≡ true → Backs cs f g (Action.Send (Message.ArbStatus Wait.Device) ∷ []) Held.Nothing (stepOf e (Event.Own Notice.Sent) (after cs))
   -- with neither an OPEN nor BREAK since, Sent only tells the router
   pub sends-alone : (cs : List Call) (e : OpenFrame) → after cs .phase ≡ Phase.Xl5 → breakSent (history cs) ≡ false → openMet (history cs) ≡ Held.Nothing → stepOf e (Event.Own Notice.Sent) (after cs) ≡ answers (link Phase.Xl6 (known (after cs .memory .held) Held.Nothing (after cs .memory .aip) false (after cs .memory .close) (after cs .memory .blocked)) (after cs .count)) (Action.Send (Message.ArbStatus Wait.Device) ∷ [])
   -- 01 XL.18 01 XL.19 01 XL.26

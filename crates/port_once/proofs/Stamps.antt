@@ -3,7 +3,7 @@
 -- ready, and an Open, which is choose's, carries the wait since the other. Assumes nothing.
 use Prim.Native.Nat.{ℕ, _+_, _-_, _≤_, _<_}
 use mathlib.Core.Path.{_≡_, refl}
-use mathlib.Core.Bool.{Bool, true, false, not, cond}
+use mathlib.Core.Bool.{Bool, true, false, not, cond, _||_}
 use mathlib.Core.List.{List}
 use lib.ListN.{getD}
 use Rattle.laws.proofs.Bools.{never}
@@ -14,7 +14,8 @@ use Rattle.port_parts.specs.Reasons.{reasonOf, isBlocked}
 use Rattle.port_parts.specs.declared.Phy.{Phy}
 use Rattle.port_parts.specs.declared.Request.{Request}
 use Rattle.port_parts.specs.declared.Stamp.{Stamp}
-use Rattle.port_rows.specs.declared.Done.{Done}
+use Rattle.port_rows.specs.Calls.{firstOpen}
+use Rattle.port_rows.specs.declared.Answer.{Answer}
 use Rattle.port.specs.History.{State, Call, Entry, doneOf, isRefused}
 use Rattle.port_once.specs.Standing.{isSetup}
 use Rattle.port_once.specs.Turns.{Lawful}
@@ -69,12 +70,18 @@ first-kept = record {
 
 -- ---- what choose names, and what an Open carries
 
-abbrev Ready : List Request → Call → Done → Type 0
-Ready l c d = picks (record { call = c; answer = d .answer }) ≡ true → (d .answer .slot < 32) × (getD l (d .answer .slot) blank .retry .set ≡ 1 → getD l (d .answer .slot) blank .retry .at + 15 ≤ timeOf c)
+-- choose names a request, or answers Open, as no other call does
+abbrev pub chooses : Call → Answer → Bool
+chooses c a = picks (record { call = c; answer = a }) || isOpen (a .word)
 
--- only choose answers Open
-abbrev Waited : List Request → Call → Done → Type 0
-Waited l c d = isOpen (d .answer .word) ≡ true → (d .answer .slot < 32) × (d .answer .frame .awt .0 ≡ waitOf (timeOf c - cond (isSet (getD l (d .answer .slot) blank .first)) (getD l (d .answer .slot) blank .first) (stamped (timeOf c)) .at))
+-- the request at the answer's slot, where the list was l, rests no longer, and an Open carries its wait
+pub record Chosen (l : List Request) (c : Call) (a : Answer) : Type 0 where
+  pub slot : a .slot < 32
+  pub ready : getD l (a .slot) blank .retry .set ≡ 1 → getD l (a .slot) blank .retry .at + 15 ≤ timeOf c
+  pub wait : isOpen (a .word) ≡ true → a .frame .awt .0 ≡ waitOf (timeOf c - firstOpen (getD l (a .slot) blank) (timeOf c) .at)
+
+abbrev pub Chooses : List Request → Call → Answer → Type 0
+Chooses l c a = chooses c a ≡ true → Chosen l c a
 
 -- what qualifies is ready
 rested : {now : ℕ} {r : Request} {f : Phy} {step : ℕ} → Qualifies now r f step → r .retry .set ≡ 1 → r .retry .at + 15 ≤ now
@@ -86,42 +93,15 @@ module _ (s : State) where
   abbrev l : List Request
   l = s .list
 
-  readies : Each s (Ready l)
-  readies = record {
+  chosens : Each s (λ c d. Chooses l c (d .answer))
+  chosens = record {
     submits = λ x e. absurd (never e);
     withdraws = λ x e. absurd (never e);
     stops = λ x e. absurd (never e);
     stops-closing = λ x e. absurd (never e);
-    sends = λ x b w n e. (w .slot, rested (w .fits));
-    opens = λ x b w n e. (w .slot, rested (w .fits));
-    closes = λ x b w n e. (w .slot, rested (w .fits));
-    idles = λ x e. absurd (never e);
-    opened-cancelled = λ x h c e. absurd (never e);
-    opened-sends = λ x h c e. absurd (never e);
-    failed-cancelled = λ x h c u v e. absurd (never e);
-    failed-ends = λ x h c f v e. absurd (never e);
-    failed-loses = λ x h c f g e. absurd (never e);
-    failed-again = λ x h c f g e. absurd (never e);
-    status-cancelled = λ x h c e. absurd (never e);
-    status-ends = λ x h c e. absurd (never e);
-    closed-cancelled = λ x h c e. absurd (never e);
-    closed-ends = λ x h c e. absurd (never e);
-    closed-free = λ x far t e. absurd (never e);
-    enables = λ x e. absurd (never e);
-    disabled-cancelled = λ x h c e. absurd (never e);
-    disabled-waits = λ x h c e. absurd (never e);
-    disabled-free = λ x far t e. absurd (never e);
-  }
-
-  waiteds : Each s (Waited l)
-  waiteds = record {
-    submits = λ x e. absurd (never e);
-    withdraws = λ x e. absurd (never e);
-    stops = λ x e. absurd (never e);
-    stops-closing = λ x e. absurd (never e);
-    sends = λ x b w n e. absurd (never e);
-    opens = λ x b w n e. (w .slot, refl);
-    closes = λ x b w n e. absurd (never e);
+    sends = λ x b w n e. record { slot = w .slot; ready = rested (w .fits); wait = λ o. absurd (never o) };
+    opens = λ x b w n e. record { slot = w .slot; ready = rested (w .fits); wait = λ o. refl };
+    closes = λ x b w n e. record { slot = w .slot; ready = rested (w .fits); wait = λ o. absurd (never o) };
     idles = λ x e. absurd (never e);
     opened-cancelled = λ x h c e. absurd (never e);
     opened-sends = λ x h c e. absurd (never e);
@@ -141,8 +121,5 @@ module _ (s : State) where
   }
 
   module _ (ok : Lawful s) (c : Call) (plain : isSetup c ≡ false) (on : isRefused (doneOf c s .answer .word) ≡ false) where
-    pub ready-so : Ready l c (doneOf c s)
-    ready-so = by-each s ok (Ready l) readies c plain on
-
-    pub waits-so : Waited l c (doneOf c s)
-    waits-so = by-each s ok (Waited l) waiteds c plain on
+    pub chosen-so : Chooses l c (doneOf c s .answer)
+    chosen-so = by-each s ok (λ c d. Chooses l c (d .answer)) chosens c plain on

@@ -5,7 +5,7 @@ use mathlib.Core.Path.{_≡_, refl, sym, ap, subst, _∙_}
 use mathlib.Core.Bool.{Bool, true, false, cond, _||_}
 use mathlib.Core.List.{List, [], _∷_}
 use lib.ListN.{length, getD}
-use Rattle.laws.proofs.Bools.{never, and-right}
+use Rattle.laws.proofs.Bools.{never, and-right, or-left, or-right}
 use Rattle.open_frame.specs.Wait.{waitOf}
 use Rattle.port_parts.specs.Parts.{blank, none, stamped, isSet}
 use Rattle.port_parts.specs.Reasons.{isBlocked}
@@ -27,7 +27,7 @@ use Rattle.port_once.proofs.Leaving.{tells}
 use Rattle.port_once.proofs.Carried.{carried, Field, shows}
 use Rattle.port_once.proofs.Fields.{fieldOf}
 use Rattle.port_once.proofs.Since.{between}
-use Rattle.port_once.proofs.Stamps.{retryBy, firstBy, retry-kept, first-kept, ready-so, waits-so}
+use Rattle.port_once.proofs.Stamps.{retryBy, firstBy, retry-kept, first-kept, chooses, Chosen, Chooses, chosen-so}
 
 -- ---- the two stamps
 
@@ -123,20 +123,27 @@ module _ (r : Run) (c : Call) where
       let there = rests-else c s eight (plain-of e) (is .0 .0) (is .0 .1) .named below in
       shows A k r known (said .slot) below (there .0, keyed-of (there .1))
 
+  -- what choose says of the request that it names
+  chosen : isGoing (said .word) || isClose (said .word) ≡ true → chooses c said ≡ true → Chosen (s .list) c said
+  chosen word e =
+      let on = between (said .word) word .1 in
+      let plain = plain-of word in
+      subst (Chooses (s .list) c) (sym (same-answer c s eight on)) (chosen-so s (taken-lawful c s eight plain on) c plain (goes-on c s eight on)) e
+
   -- 01 PORT.12
   pub rests : picks (record { call = c; answer = said }) ≡ true → (t : ℕ) (older : List ℕ) → retriesOf known (past r) ≡ t ∷ older → t + 15 ≤ timeOf c
   rests e t older last =
       let word = and-right (isChoose c) (isGoing (said .word) || isClose (said .word)) e in
-      let on = between (said .word) word .1 in
-      let ready = subst (λ (a : Answer). picks (record { call = c; answer = a }) ≡ true → (a .slot < 32) × (getD (s .list) (a .slot) blank .retry .set ≡ 1 → getD (s .list) (a .slot) blank .retry .at + 15 ≤ timeOf c)) (sym (same-answer c s eight on)) (ready-so s (taken-lawful c s eight (plain-of word) on) c (plain-of word) (goes-on c s eight on)) e in
-      let is : at .retry ≡ stamped t = named Stamp retrying word (ready .0) ∙ retry-is known (past r) ∙ ap latest last in
-      subst (λ (n : ℕ). n + 15 ≤ timeOf c) (ap (λ (u : Stamp). u .at) is) (ready .1 (ap (λ (u : Stamp). u .set) is))
+      let is-chosen = chosen word (or-left (isOpen (said .word)) e) in
+      let is : at .retry ≡ stamped t = named Stamp retrying word (is-chosen .slot) ∙ retry-is known (past r) ∙ ap latest last in
+      subst (λ (n : ℕ). n + 15 ≤ timeOf c) (ap (λ (u : Stamp). u .at) is) (is-chosen .ready (ap (λ (u : Stamp). u .set) is))
 
   -- 01 PORT.16
   pub waits : isOpen (said .word) ≡ true → said .frame .awt .0 ≡ waitOf (timeOf c - firstTime (timeOf c) (opensOf isBlocked known (past r)))
   waits e =
       let word = open-goes (said .word) e in
-      let on = between (said .word) word .1 in
-      let carries = subst (λ (a : Answer). isOpen (a .word) ≡ true → (a .slot < 32) × (a .frame .awt .0 ≡ waitOf (timeOf c - cond (isSet (getD (s .list) (a .slot) blank .first)) (getD (s .list) (a .slot) blank .first) (stamped (timeOf c)) .at))) (sym (same-answer c s eight on)) (waits-so s (taken-lawful c s eight (plain-of word) on) c (plain-of word) (goes-on c s eight on)) e in
-      let is : at .first ≡ oldest (opensOf isBlocked known (past r)) = named Stamp waiting word (carries .0) ∙ first-is known (past r) in
-      carries .1 ∙ ap (λ (u : Stamp). waitOf (timeOf c - cond (isSet u) u (stamped (timeOf c)) .at)) is ∙ ap (λ (u : Stamp). waitOf (timeOf c - u .at)) (one-more (timeOf c) (opensOf isBlocked known (past r)))
+      let is-chosen = chosen word (or-right (picks (record { call = c; answer = said })) e) in
+      let is : at .first ≡ oldest (opensOf isBlocked known (past r)) = named Stamp waiting word (is-chosen .slot) ∙ first-is known (past r) in
+      is-chosen .wait e
+      ∙ ap (λ (u : Stamp). waitOf (timeOf c - cond (isSet u) u (stamped (timeOf c)) .at)) is
+      ∙ ap (λ (u : Stamp). waitOf (timeOf c - u .at)) (one-more (timeOf c) (opensOf isBlocked known (past r)))

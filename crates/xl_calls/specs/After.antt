@@ -14,6 +14,7 @@ use Rattle.xl_parts.specs.declared.State.{State}
 use Rattle.xl_parts.specs.declared.Answer.{Answer}
 use Rattle.xl_parts.specs.declared.Stepped.{Stepped}
 use Rattle.xl_parts.specs.Parts.{Effect, ready}
+use Rattle.xl_rows.specs.Sentences.{BacksOff}
 use Rattle.xl_calls.specs.Links.{Call, run}
 use Rattle.xl_calls.specs.Met.{Met, met, transmitted, openMet, breakSent}
 
@@ -54,6 +55,11 @@ pub record Remembered (cs : List Call) (f g : OpenFrame) : Type 0 where
   pub sent : transmitted (history cs) ≡ Held.Frame f
   pub unbroken : breakSent (history cs) ≡ false
   pub received : openMet (history cs) ≡ Held.Frame g
+
+-- 01 XL.32
+-- behind the actions `lead` g backs off, where f was transmitted and `heard` is the OPEN remembered
+abbrev pub Backs : List Call → OpenFrame → OpenFrame → List Action → Held → Stepped → Type 0
+Backs cs f g lead heard = Answers (BacksOff f g lead heard (after cs .memory .close) (after cs .memory .blocked) (after cs .count))
 
 -- a connection
 pub data Connected : Phase → Type 0 where
