@@ -39,7 +39,7 @@ static bool phy_kept(const struct port *port, int k)
 	return k < port->count || p->stage == DISABLED;
 }
 
-static bool port_kept(const struct port *port)
+static bool port_invariant(const struct port *port)
 {
 	if (port->count < 1 || port->count > PHYS || port->loss < 1) {
 		return false;
@@ -101,7 +101,7 @@ static bool apart(const struct request *list, size_t i)
 
 int plain_rules(const struct request *list, size_t length, const struct port *port)
 {
-	if (length != LENGTH || !port_kept(port) || !paired(list, port)) {
+	if (length != LENGTH || !port_invariant(port) || !paired(list, port)) {
 		return 0;
 	}
 	for (size_t i = 0; i < LENGTH; i++) {

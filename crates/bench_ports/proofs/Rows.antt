@@ -7,7 +7,7 @@ use types.Kit.{Given}
 use denote.RattleType.{RattleType}
 use denote.Laws.{Lawful}
 use denote.Struct.Laws as LL
-use Rattle.port_walks.proofs.Arg.{Arg}
+use Rattle.port_list.proofs.Arg.{Arg}
 use Rattle.bench_ports.proofs.Reply as Reply′
 use Rattle.bench_ports.proofs.Reply.Laws as Reply″
 

@@ -36,13 +36,13 @@ use Rattle.port_rows.specs.declared.Done.{Done}
 use Rattle.port.specs.declared.Stepped.{Stepped}
 use Rattle.port_parts.specs.declared.Request.{Request}
 use Rattle.port.specs.Calls.{Called}
-use Rattle.port_walks.proofs.Arg.{Arg}
-use Rattle.port_walks.proofs.Rec.{R}
-use Rattle.port_walks.proofs.Callees.{gives1, calls1}
-use Rattle.port_walks.proofs.Lent.{sliceOf, ended, clauses, called, PostOf, exits, meets}
+use Rattle.port_list.proofs.Arg.{Arg}
+use Rattle.port_list.proofs.Rec.{R}
+use Rattle.port_list.proofs.Callees.{gives1, calls1}
+use Rattle.port_list.proofs.Lent.{sliceOf, ended, clauses, called, PostOf, exits, meets}
 use Rattle.port.proofs.Rows.{SteppedR, stepped}
 use Rattle.bench_ports.specs.declared.Reply.{Reply}
-use Rattle.bench_ports.specs.Face.{replyOf, Told}
+use Rattle.bench_ports.specs.Face.{numbered, Seen}
 use Rattle.bench_ports.proofs.Rows.{ReplyR, reply}
 use Rattle.bench_ports.proofs.numbered.Symbol.{name as #bench_ports·numbered}
 
@@ -70,7 +70,7 @@ module _ (𝓟 𝓧 : Arg) (Rfs : 𝓟 .X .Denot → Stepped) (Tld : List Reques
   callee = called 𝓟 𝓧 stepped Left
 
   abbrev Promise : List Request → 𝓟 .X .Denot → 𝓧 .X .Denot → Reply → List Request → Type 0
-  Promise ys p x r zs = Told ys (Tld ys p x) (Rfs p) r zs
+  Promise ys p x r zs = Seen ys (Tld ys p x) (Rfs p) r zs
 
   module _ {M : Type 1} (𝓤 : URA M) (H : Heap 𝓤) (A : Atoms 𝓤) (W : Given 𝓤 H A) (κ : Lft) (q : Share) (b o : ℕ) (γ : GName) (ys : List Request) (p : 𝓟 .X .Denot) (x : 𝓧 .X .Denot) (vp vx : Val) (room : Room R (length ys)) (gp : Is (𝓟 .X) p (vp ∷ [])) (gx : Is (𝓧 .X) x (vx ∷ [])) where
     abbrev sl : RefT (List Request)
@@ -99,7 +99,7 @@ module _ (𝓟 𝓧 : Arg) (Rfs : 𝓟 .X .Denot → Stepped) (Tld : List Reques
 
     -- the locals' types, and that what is stored in each has its type
     module _ (ρ σ α π ξ : Ty) (#call : Name) (typed-p : T (hasTy π vp) × WT vp) (typed-x : T (hasTy ξ vx) × WT vx) (typed-s : (y : Stepped) (u : Val) → Is SteppedR y (u ∷ []) → T (hasTy σ u) × WT u) (typed-r : (r : Reply) (u : Val) → Is ReplyR r (u ∷ []) → T (hasTy α u) × WT u)
-        (C : Calls 𝓤 H) (Λ : Loops 𝓤 H) (fm : FmC 𝓤 H (W .laws) C) (known-call : Triple 𝓤 (C #call) (callee 𝓤 H A)) (known-answer : Triple 𝓤 (C #bench_ports·numbered) (gives1 stepped reply replyOf 𝓤 H A)) where
+        (C : Calls 𝓤 H) (Λ : Loops 𝓤 H) (fm : FmC 𝓤 H (W .laws) C) (known-call : Triple 𝓤 (C #call) (callee 𝓤 H A)) (known-answer : Triple 𝓤 (C #bench_ports·numbered) (gives1 stepped reply numbered 𝓤 H A)) where
       walk : ent 𝓤 (onEntry 𝓤 H A (ended 𝓟 𝓧 reply .signature) (κ, tt) (q, tt) arg at) (WpFn 𝓤 H C Λ (function ρ σ α π ξ #call) (s ∷ vp ∷ vx ∷ []) Post)
       walk =
           qed W ((‵ (flft κ q) ⊛ ‵ ftrue) ∷ ‵ (owns (MutSlice (named 0) κ R ∷ 𝓟 .X ∷ 𝓧 .X ∷ []) arg at) ∷ []) ∵ enter ! C Λ (function ρ σ α π ξ #call) (s ∷ vp ∷ vx ∷ []) _ $
@@ -117,14 +117,14 @@ module _ (𝓟 𝓧 : Arg) (Rfs : 𝓟 .X .Denot → Stepped) (Tld : List Reques
           move ! (2 ∷ []) $ split ! $ move ! (1 ∷ []) $ facts ! SteppedR (Is SteppedR) (shows 𝓤 H A SteppedR) y (w ∷ []) (λ iy.
           -- [the token; the last list; true; p's and x's; the locals from 4]
           land ! (from ! (stop !)) (init ! 8 refl (typed-s y w iy)) $
-          calls1 stepped reply replyOf 𝓤 H A y w iy ! fm known-answer (and-then ! (load ! (from ! (stop !)) (look ! 9 refl)) (no-more !)) (λ v ir.
-          land ! (from ! (stop !)) (init ! 16 refl (typed-r (replyOf y) v ir)) $
+          calls1 stepped reply numbered 𝓤 H A y w iy ! fm known-answer (and-then ! (load ! (from ! (stop !)) (look ! 9 refl)) (no-more !)) (λ v ir.
+          land ! (from ! (stop !)) (init ! 16 refl (typed-r (numbered y) v ir)) $
           returns ! (look ! 16 refl) $ forget ! 4 refl $ forget ! 6 refl $ forget ! 8 refl $ forget ! 10 refl $ forget ! 12 refl $ forget ! 14 refl $ forget ! 16 refl $
           move ! (16 ∷ 17 ∷ []) $ free1 ! $ move ! (14 ∷ 15 ∷ []) $ free1 ! $ move ! (12 ∷ 13 ∷ []) $ free1 ! $ move ! (10 ∷ 11 ∷ []) $ free1 ! $ move ! (8 ∷ 9 ∷ []) $ free1 ! $ move ! (6 ∷ 7 ∷ []) $ free1 ! $ move ! (4 ∷ 5 ∷ []) $ free1 ! $ free0 ! $
-          keep ! (0 ∷ 1 ∷ []) $ by ! (exits 𝓟 𝓧 reply Promise 𝓤 H A W κ q b o γ ys p x vp vx v (replyOf y) (zs .0) (ap replyOf (e .0), e .1) l ir)))))))))))))))
+          keep ! (0 ∷ 1 ∷ []) $ by ! (exits 𝓟 𝓧 reply Promise 𝓤 H A W κ q b o γ ys p x vp vx v (numbered y) (zs .0) (ap numbered (e .0), e .1) l ir)))))))))))))))
 
   module _ (ρ σ α π ξ : Ty) (#call : Name) (typed-p : (p : 𝓟 .X .Denot) (u : Val) → Is (𝓟 .X) p (u ∷ []) → T (hasTy π u) × WT u) (typed-x : (x : 𝓧 .X .Denot) (u : Val) → Is (𝓧 .X) x (u ∷ []) → T (hasTy ξ u) × WT u) (typed-s : (y : Stepped) (u : Val) → Is SteppedR y (u ∷ []) → T (hasTy σ u) × WT u) (typed-r : (r : Reply) (u : Val) → Is ReplyR r (u ∷ []) → T (hasTy α u) × WT u)
-      {M : Type 1} (𝓤 : URA M) (H : Heap 𝓤) (A : Atoms 𝓤) (W : Given 𝓤 H A) (𝓣 : Tables 𝓤 H) (known-call : Triple 𝓤 (𝓣 .C #call) (callee 𝓤 H A)) (known-answer : Triple 𝓤 (𝓣 .C #bench_ports·numbered) (gives1 stepped reply replyOf 𝓤 H A)) where
+      {M : Type 1} (𝓤 : URA M) (H : Heap 𝓤) (A : Atoms 𝓤) (W : Given 𝓤 H A) (𝓣 : Tables 𝓤 H) (known-call : Triple 𝓤 (𝓣 .C #call) (callee 𝓤 H A)) (known-answer : Triple 𝓤 (𝓣 .C #bench_ports·numbered) (gives1 stepped reply numbered 𝓤 H A)) where
     pub through : Meets 𝓤 H A (ended 𝓟 𝓧 reply .signature) (WpFn 𝓤 H (𝓣 .C) (𝓣 .Λ) (function ρ σ α π ξ #call)) (closing 𝓤 H A (ended 𝓟 𝓧 reply) (clauses 𝓟 𝓧 reply Promise 𝓤))
     through = meets 𝓟 𝓧 reply Promise 𝓤 H A W 𝓣 (function ρ σ α π ξ #call) (λ κ q b o γ ys p x vp vx room gp gx.
         walk 𝓤 H A W κ q b o γ ys p x vp vx room gp gx ρ σ α π ξ #call (typed-p p vp gp) (typed-x x vx gx) typed-s typed-r (𝓣 .C) (𝓣 .Λ) (fmOf 𝓤 H (W .laws) 𝓣) known-call known-answer)

@@ -9,7 +9,7 @@ use Rattle.port_parts.specs.declared.Request.{Request}
 use Rattle.port_rows.specs.declared.Done.{Done}
 use Rattle.port_rows.specs.declared.Word.{Word}
 use Rattle.port_rows.specs.declared.Word.the-variants.{Taken, Submitted, Nothing, Send, Open, Close, StopArb, Retried, Waiting, CancelAcknowledged, Ended, NexusLoss, ConnectionLost, Status, Refused}
-use Rattle.port.specs.Calls.{on32, steppedOf, leftOf}
+use Rattle.port.specs.Calls.{on32, answered, leftOf}
 use Rattle.port.specs.declared.Stepped.{Stepped}
 use Rattle.bench_ports.specs.declared.Reply.{Reply}
 
@@ -62,8 +62,8 @@ detailOf ConnectionLost = 0
 detailOf (Status byte) = byte
 detailOf (Refused k) = numberOf k
 
-abbrev pub replyOf : Stepped → Reply
-replyOf s = record {
+abbrev pub numbered : Stepped → Reply
+numbered s = record {
   word = wordOf (s .answer .word);
   detail = detailOf (s .answer .word);
   slot = s .answer .slot;
@@ -73,5 +73,5 @@ replyOf s = record {
 }
 
 -- what a call that leaves d promises of its reply r and of the list; none is its answer to a list of another length
-abbrev pub Told : List Request → Done → Stepped → Reply → List Request → Type 0
-Told l d none r after = (r ≡ replyOf (on32 l (steppedOf d) none)) × (after ≡ on32 l (leftOf l d) l)
+abbrev pub Seen : List Request → Done → Stepped → Reply → List Request → Type 0
+Seen l d none r after = (r ≡ numbered (on32 l (answered d) none)) × (after ≡ on32 l (leftOf l d) l)

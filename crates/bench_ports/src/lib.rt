@@ -2,17 +2,17 @@
 // a number, and what goes with it another.
 ghost use mathlib.Core.Path.{_≡_};
 ghost use Rattle.port.specs.Calls.{short, shortSetup, setupCall, submitCall, cancelCall, chooseCall, openedCall, openFailedCall, frameStatusCall, closedCall, enableCall, disableCall};
-ghost use Rattle.bench_ports.specs.Face.{wordOf, detailOf, whyOf, replyOf, Told};
+ghost use Rattle.bench_ports.specs.Face.{wordOf, detailOf, whyOf, numbered, Seen};
 use open_frame::OpenFrame;
-use port::Moment;
 use port::Stepped;
+use port::Time;
 use port_parts::Port;
 use port_parts::Reason;
 use port_parts::Request;
 use port_rows::Confirmed;
 use port_rows::Failure;
 use port_rows::Report;
-use port_rows::Wish;
+use port_rows::Submission;
 use port_rows::Withdrawn;
 use port_rows::Word;
 
@@ -94,7 +94,7 @@ fn detail(w: Word) -> u8
 }
 
 fn numbered(s: Stepped) -> Reply
-    ensures { λ r. ⌜ r ≡ replyOf s ⌝ }
+    ensures { λ r. ⌜ r ≡ numbered s ⌝ }
 {
     let a = s.answer;
     let w = a.word;
@@ -112,15 +112,15 @@ fn numbered(s: Stepped) -> Reply
 
 #[no_mangle]
 pub extern "C" fn port_setup(list: &mut [Request], count: u8, loss: u16) -> Reply
-    ensures { λ r. ⌜ Told (now (list .entry)) (setupCall (now (list .entry)) count loss) (shortSetup count) r (now (list .exit)) ⌝ }
+    ensures { λ r. ⌜ Seen (now (list .entry)) (setupCall (now (list .entry)) count loss) (shortSetup count) r (now (list .exit)) ⌝ }
 {
     let s = port::setup(list, count, loss);
     numbered(s)
 }
 
 #[no_mangle]
-pub extern "C" fn port_submit(list: &mut [Request], p: Port, x: Wish) -> Reply
-    ensures { λ r. ⌜ Told (now (list .entry)) (submitCall (now (list .entry)) p x) (short p) r (now (list .exit)) ⌝ }
+pub extern "C" fn port_submit(list: &mut [Request], p: Port, x: Submission) -> Reply
+    ensures { λ r. ⌜ Seen (now (list .entry)) (submitCall (now (list .entry)) p x) (short p) r (now (list .exit)) ⌝ }
 {
     let s = port::submit(list, p, x);
     numbered(s)
@@ -128,15 +128,15 @@ pub extern "C" fn port_submit(list: &mut [Request], p: Port, x: Wish) -> Reply
 
 #[no_mangle]
 pub extern "C" fn port_cancel(list: &mut [Request], p: Port, x: Withdrawn) -> Reply
-    ensures { λ r. ⌜ Told (now (list .entry)) (cancelCall (now (list .entry)) p x) (short p) r (now (list .exit)) ⌝ }
+    ensures { λ r. ⌜ Seen (now (list .entry)) (cancelCall (now (list .entry)) p x) (short p) r (now (list .exit)) ⌝ }
 {
     let s = port::cancel(list, p, x);
     numbered(s)
 }
 
 #[no_mangle]
-pub extern "C" fn port_choose(list: &mut [Request], p: Port, x: Moment) -> Reply
-    ensures { λ r. ⌜ Told (now (list .entry)) (chooseCall (now (list .entry)) p x) (short p) r (now (list .exit)) ⌝ }
+pub extern "C" fn port_choose(list: &mut [Request], p: Port, x: Time) -> Reply
+    ensures { λ r. ⌜ Seen (now (list .entry)) (chooseCall (now (list .entry)) p x) (short p) r (now (list .exit)) ⌝ }
 {
     let s = port::choose(list, p, x);
     numbered(s)
@@ -144,7 +144,7 @@ pub extern "C" fn port_choose(list: &mut [Request], p: Port, x: Moment) -> Reply
 
 #[no_mangle]
 pub extern "C" fn port_opened(list: &mut [Request], p: Port, x: Confirmed) -> Reply
-    ensures { λ r. ⌜ Told (now (list .entry)) (openedCall (now (list .entry)) p x) (short p) r (now (list .exit)) ⌝ }
+    ensures { λ r. ⌜ Seen (now (list .entry)) (openedCall (now (list .entry)) p x) (short p) r (now (list .exit)) ⌝ }
 {
     let s = port::opened(list, p, x);
     numbered(s)
@@ -152,7 +152,7 @@ pub extern "C" fn port_opened(list: &mut [Request], p: Port, x: Confirmed) -> Re
 
 #[no_mangle]
 pub extern "C" fn port_open_failed(list: &mut [Request], p: Port, x: Failure) -> Reply
-    ensures { λ r. ⌜ Told (now (list .entry)) (openFailedCall (now (list .entry)) p x) (short p) r (now (list .exit)) ⌝ }
+    ensures { λ r. ⌜ Seen (now (list .entry)) (openFailedCall (now (list .entry)) p x) (short p) r (now (list .exit)) ⌝ }
 {
     let s = port::open_failed(list, p, x);
     numbered(s)
@@ -160,7 +160,7 @@ pub extern "C" fn port_open_failed(list: &mut [Request], p: Port, x: Failure) ->
 
 #[no_mangle]
 pub extern "C" fn port_frame_status(list: &mut [Request], p: Port, x: Report) -> Reply
-    ensures { λ r. ⌜ Told (now (list .entry)) (frameStatusCall (now (list .entry)) p x) (short p) r (now (list .exit)) ⌝ }
+    ensures { λ r. ⌜ Seen (now (list .entry)) (frameStatusCall (now (list .entry)) p x) (short p) r (now (list .exit)) ⌝ }
 {
     let s = port::frame_status(list, p, x);
     numbered(s)
@@ -168,7 +168,7 @@ pub extern "C" fn port_frame_status(list: &mut [Request], p: Port, x: Report) ->
 
 #[no_mangle]
 pub extern "C" fn port_closed(list: &mut [Request], p: Port, x: Confirmed) -> Reply
-    ensures { λ r. ⌜ Told (now (list .entry)) (closedCall (now (list .entry)) p x) (short p) r (now (list .exit)) ⌝ }
+    ensures { λ r. ⌜ Seen (now (list .entry)) (closedCall (now (list .entry)) p x) (short p) r (now (list .exit)) ⌝ }
 {
     let s = port::closed(list, p, x);
     numbered(s)
@@ -176,7 +176,7 @@ pub extern "C" fn port_closed(list: &mut [Request], p: Port, x: Confirmed) -> Re
 
 #[no_mangle]
 pub extern "C" fn port_enable(list: &mut [Request], p: Port, x: Confirmed) -> Reply
-    ensures { λ r. ⌜ Told (now (list .entry)) (enableCall (now (list .entry)) p x) (short p) r (now (list .exit)) ⌝ }
+    ensures { λ r. ⌜ Seen (now (list .entry)) (enableCall (now (list .entry)) p x) (short p) r (now (list .exit)) ⌝ }
 {
     let s = port::enable(list, p, x);
     numbered(s)
@@ -184,7 +184,7 @@ pub extern "C" fn port_enable(list: &mut [Request], p: Port, x: Confirmed) -> Re
 
 #[no_mangle]
 pub extern "C" fn port_disable(list: &mut [Request], p: Port, x: Confirmed) -> Reply
-    ensures { λ r. ⌜ Told (now (list .entry)) (disableCall (now (list .entry)) p x) (short p) r (now (list .exit)) ⌝ }
+    ensures { λ r. ⌜ Seen (now (list .entry)) (disableCall (now (list .entry)) p x) (short p) r (now (list .exit)) ⌝ }
 {
     let s = port::disable(list, p, x);
     numbered(s)

@@ -21,7 +21,7 @@ use Rattle.port_rows.specs.Calls.{phyAt}
 use Rattle.port_rows.specs.declared.Failure.{Failure}
 use Rattle.port.specs.Calls.{onPhy}
 use Rattle.port.specs.History.{State, openFailed, leave}
-use Rattle.port_kept.proofs.Blocked.{blocked-again}
+use Rattle.port_invariant.proofs.Blocked.{blocked-again}
 use Rattle.runs.specs.Output.{outputOf}
 use Rattle.runs.specs.Listing.{listed as listed-bytes, printed}
 use Rattle.runs.specs.Typed.{typedInput, typedOutput}

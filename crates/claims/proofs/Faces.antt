@@ -6,7 +6,7 @@ use denote.Ref.{now}
 use Rattle.port_parts.specs.declared.Port.{Port}
 use Rattle.port_parts.specs.declared.Request.{Request}
 use Rattle.port.specs.History.{State, Call, setup, submit, cancel, choose, opened, openFailed, frameStatus, closed, enable, disable, doneOf, shortOf}
-use Rattle.bench_ports.specs.Face.{Told}
+use Rattle.bench_ports.specs.Face.{Seen}
 use Rattle.bench_ports.specs.declared.Reply.{Reply}
 use Rattle.bench_ports.proofs.port_setup as port-setup
 use Rattle.bench_ports.proofs.port_submit as port-submit
@@ -23,7 +23,7 @@ use Rattle.claims.proofs.Ports.{lent}
 
 -- what is told of a call, and the list behind it
 abbrev Tells : Call → State → Reply → List Request → Type 0
-Tells c s r after = Told (s .list) (doneOf c s) (shortOf c s) r after
+Tells c s r after = Seen (s .list) (doneOf c s) (shortOf c s) r after
 
 -- a holds the list, the port and what the call is given, e the list at the end; a setup is lent no port
 pub record Faces : Type 2 where

@@ -13,20 +13,20 @@ use Rattle.port_rules.specs.Kept.{Free}
 use Rattle.port_rows.specs.Finds.{isOf}
 use Rattle.port_rows.specs.declared.Answer.{Answer}
 use Rattle.port_rows.specs.declared.Key.{Key}
-use Rattle.port_rows.specs.declared.Wish.{Wish}
+use Rattle.port_rows.specs.declared.Submission.{Submission}
 use Rattle.port_rows.specs.declared.Withdrawn.{Withdrawn}
 use Rattle.port.specs.Grounds.{HasKey, Absent}
 use Rattle.port.specs.History.{State, Call, submit, cancel, steppedBy, isRefused, isLast, leave, run, entriesOf, history}
-use Rattle.port_once.specs.Standing.{isSetup, isSubmitted, submits, lastWords, gone, there, wrong, standing, silent}
-use Rattle.port_once.specs.Turns.{keyed, Given, Comes, Leaves, Rests, Holds, Zeros}
-use Rattle.port_once.specs.Runs.{Run, now, past}
-use Rattle.port_once.specs.Ends.{Ends}
-use Rattle.port_once.specs.Marks.{isCancel, isAcknowledged, isGoing, since, cancels, closes}
-use Rattle.port_once.proofs.Givens.{submits-given, cancels-given}
-use Rattle.port_once.proofs.Turns.{comes-when, leaves-when, rests-else, refused-nothing}
-use Rattle.port_once.proofs.Ends.{ends-from}
-use Rattle.port_once.proofs.Since.{acknowledged, withheld, closed-once}
-use Rattle.port_once.proofs.Leaving.{tells, alternates, there-exactly, gone-exactly, counts-gone, counts-there, until}
+use Rattle.port_history.specs.Standing.{isSetup, isSubmitted, submits, lastWords, gone, there, wrong, standing, silent}
+use Rattle.port_history.specs.Turns.{keyed, Given, Comes, Leaves, Rests, Holds, Zeros}
+use Rattle.port_history.specs.Runs.{Run, now, past}
+use Rattle.port_history.specs.Ends.{Ends}
+use Rattle.port_history.specs.Marks.{isCancel, isAcknowledged, isGoing, since, cancels, closes}
+use Rattle.port_history.proofs.Givens.{submits-given, cancels-given}
+use Rattle.port_history.proofs.Turns.{comes-when, leaves-when, rests-else, refused-nothing}
+use Rattle.port_history.proofs.Ends.{ends-from}
+use Rattle.port_history.proofs.Since.{acknowledged, withheld, closed-once}
+use Rattle.port_history.proofs.Leaving.{tells, alternates, there-exactly, gone-exactly, counts-gone, counts-there, until}
 
 -- what the call c answers behind some calls
 abbrev said : Run → Call → Answer
@@ -38,7 +38,7 @@ pub record Leaving : Type 0 where
   pub comes : (c : Call) (s : State) → length (s .port .phys) ≡ 8 → isSubmitted (steppedBy c s .answer .word) ≡ true → Comes (s .list) (leave c s .list) (steppedBy c s .answer)
   -- 01 PORT.12
   -- a submit that is taken is Submitted, and the request that comes has the head and the submission time that it was given
-  pub gives : (x : Wish) (s : State) → isRefused (steppedBy (submit x) s .answer .word) ≡ false → Given x (steppedBy (submit x) s .answer) (getD (leave (submit x) s .list) (steppedBy (submit x) s .answer .slot) blank)
+  pub gives : (x : Submission) (s : State) → isRefused (steppedBy (submit x) s .answer .word) ≡ false → Given x (steppedBy (submit x) s .answer) (getD (leave (submit x) s .list) (steppedBy (submit x) s .answer .slot) blank)
   -- and a cancel that is taken answers about a request with the key that it was given
   pub withdraws : (x : Withdrawn) (s : State) → isRefused (steppedBy (cancel x) s .answer .word) ≡ false → isOf (steppedBy (cancel x) s .answer .frame .head) (x .key) ≡ true
   -- a last word: the request that it names by slot and head was present and is all zeros

@@ -28,14 +28,14 @@ use Rattle.port_parts.proofs.Timers as timer
 use Rattle.port_rules.specs.Rules.{rules}
 use Rattle.port_rules.specs.Kept.{Kept, InRange, Free}
 use Rattle.port_rules.proofs.Facts.{rules-say}
-use Rattle.port_rows.specs.Answers.{fresh, nameless, bare, refusedBy}
+use Rattle.port_rows.specs.Answers.{fresh, nameless, unnamed, refusedBy}
 use Rattle.port_rows.specs.declared.Failure.{Failure}
 use Rattle.port_rows.specs.declared.Word.the-variants.{Taken, Refused}
 use Rattle.port.specs.Calls.{leftOf, onPhy, pickAt}
 use Rattle.port.specs.Chooses.{Tells}
 use Rattle.port.specs.Grounds.{groundsOf}
 use Rattle.port.specs.History.{State, Call, setup, submit, cancel, choose, opened, openFailed, frameStatus, closed, enable, disable, doneOf, shortOf, Does, steppedBy, isRefused, leave, run}
-use Rattle.port.specs.declared.Moment.{Moment}
+use Rattle.port.specs.declared.Time.{Time}
 use Rattle.port.specs.declared.Stepped.{Stepped}
 use Rattle.port.proofs.setup as call-setup
 use Rattle.port.proofs.submit as call-submit
@@ -51,10 +51,10 @@ use Rattle.port.proofs.Promised.{refused-leaves}
 use Rattle.port.proofs.Refusals.{refused-exactly}
 use Rattle.port.proofs.Begins.{setup-kept}
 use Rattle.port.proofs.Chooses.{choose-tells}
-use Rattle.port_kept.specs.Ranged.{Ranged}
-use Rattle.port_kept.proofs.Leaves.{taken-so, refused-so}
-use Rattle.port_kept.proofs.Runs.{kept-sound, kept-since, run-length, never-three-since}
-use Rattle.port_kept.proofs.Timers.{timers-run-on}
+use Rattle.port_invariant.specs.Ranged.{Ranged}
+use Rattle.port_invariant.proofs.Leaves.{taken-so, refused-so}
+use Rattle.port_invariant.proofs.Runs.{kept-sound, kept-since, run-length, never-three-since}
+use Rattle.port_invariant.proofs.Timers.{timers-run-on}
 use Rattle.claims.proofs.Walked.{Means}
 
 abbrev pub lent : Port → List Request → State
@@ -80,7 +80,7 @@ pub record Ports : Type 2 where
   -- 01 PORT.15
   pub nothing : (ps : List Phy) (now : ℕ) (l : List Request) (p : Pick) → Right ps now l p → (p .step ≡ 0) ↔ ((i k step : ℕ) → i < 32 → k < 8 → Fits ps now l i k step → ⊥)
   -- and choose, where it is not refused, answers that pick
-  pub answers : (s : State) (x : Moment) → isRefused (steppedBy (choose x) s .answer .word) ≡ false → Tells (pickAt (s .list) (s .port) (x .now)) (steppedBy (choose x) s .answer)
+  pub answers : (s : State) (x : Time) → isRefused (steppedBy (choose x) s .answer .word) ≡ false → Tells (pickAt (s .list) (s .port) (x .now)) (steppedBy (choose x) s .answer)
   -- 01 TRAP.3
   -- Open Failed of an SSP request whose destination's timer runs, with a reason that doesn't stop it: each request that is present behind it has
   -- the timer that it had
@@ -90,7 +90,7 @@ pub record Ports : Type 2 where
   -- 01 PORT.4 01 PORT.5 01 PORT.6 01 PORT.7 01 PORT.8 01 PORT.9 01 PORT.10
   pub kept : (p : Port) (l : List Request) → Says (rules p l) (Kept p l)
   -- 01 PORT.2
-  pub begins : (count loss : ℕ) (l : List Request) → length l ≡ 32 → InRange count loss → Kept (fresh count loss) (leftOf l (bare (fresh count loss) Taken true))
+  pub begins : (count loss : ℕ) (l : List Request) → length l ≡ 32 → InRange count loss → Kept (fresh count loss) (leftOf l (unnamed (fresh count loss) Taken true))
   -- 01 PORT.4 01 PORT.5 01 PORT.6 01 PORT.7 01 PORT.8 01 PORT.9 01 PORT.10
   -- each call leaves a state that keeps the rules; that a port has eight phys is its type's
   pub keeps : (c : Call) (s : State) → length (s .port .phys) ≡ 8 → Kept (s .port) (s .list) → (length (leave c s .port .phys) ≡ 8) × Kept (leave c s .port) (leave c s .list)

@@ -11,12 +11,12 @@ use Rattle.port_parts.specs.Reasons.{isRetried, isBlocked, isStarting, isStoppi
 use Rattle.port_rows.specs.declared.Answer.{Answer}
 use Rattle.port_rows.specs.declared.Key.{Key}
 use Rattle.port.specs.History.{Call, steppedBy}
-use Rattle.port_once.specs.Turns.{keyed, Ssp}
-use Rattle.port_once.specs.Runs.{Run, now, past}
-use Rattle.port_once.specs.Marks.{since, cancels}
-use Rattle.port_once.specs.Times.{timeOf, whyOf, isOpen, isNexusLoss, picks, retriesOf, opensOf, firstTime, confirmed, timerOf, lossTime, lastTime, isDue}
-use Rattle.port_once.proofs.Times.{rests, waits}
-use Rattle.port_once.proofs.Losses.{lasts, timers, losses}
+use Rattle.port_history.specs.Turns.{keyed, Ssp}
+use Rattle.port_history.specs.Runs.{Run, now, past}
+use Rattle.port_history.specs.Marks.{since, cancels}
+use Rattle.port_history.specs.Times.{timeOf, whyOf, isOpen, isNexusLoss, picks, retriesOf, opensOf, firstTime, confirmed, timerOf, lossTime, lastTime, isDue}
+use Rattle.port_history.proofs.Times.{rests, waits}
+use Rattle.port_history.proofs.Losses.{lasts, timers, losses}
 
 -- what the call c answers behind some calls
 abbrev said : Run → Call → Answer

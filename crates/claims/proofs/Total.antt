@@ -99,12 +99,12 @@ use Rattle.port_parts.proofs.no_stamp.Kinds as port-no-stamp-of
 use Rattle.port_parts.proofs.no_stamp.Reads as port-no-stamp
 use Rattle.port_parts.proofs.stamped.Kinds as port-stamped-of
 use Rattle.port_parts.proofs.stamped.Reads as port-stamped
-use Rattle.port_parts.proofs.disabled.Kinds as port-disabled-of
-use Rattle.port_parts.proofs.disabled.Reads as port-disabled
-use Rattle.port_parts.proofs.freed.Kinds as port-freed-of
-use Rattle.port_parts.proofs.freed.Reads as port-freed
-use Rattle.port_parts.proofs.slot.Kinds as port-slot-of
-use Rattle.port_parts.proofs.slot.Reads as port-slot
+use Rattle.port_parts.proofs.disabled_phy.Kinds as port-disabled-phy-of
+use Rattle.port_parts.proofs.disabled_phy.Reads as port-disabled-phy
+use Rattle.port_parts.proofs.blank.Kinds as port-blank-of
+use Rattle.port_parts.proofs.blank.Reads as port-blank
+use Rattle.port_parts.proofs.slot_at.Kinds as port-slot-of
+use Rattle.port_parts.proofs.slot_at.Reads as port-slot
 use Rattle.port_parts.proofs.no_pick.Kinds as port-no-pick-of
 use Rattle.port_parts.proofs.no_pick.Reads as port-no-pick
 use Rattle.port_parts.proofs.chosen_step.Kinds as port-chosen-step-of
@@ -133,12 +133,12 @@ use Rattle.port_rules.proofs.port_rule.Kinds as port-port-rule-of
 use Rattle.port_rules.proofs.port_rule.Reads as port-port-rule
 use Rattle.port_rules.proofs.request_rule.Kinds as port-request-rule-of
 use Rattle.port_rules.proofs.request_rule.Reads as port-request-rule
-use Rattle.port_rules.proofs.held_against.Kinds as port-held-against-of
-use Rattle.port_rules.proofs.held_against.Reads as port-held-against
+use Rattle.port_rules.proofs.compared_of.Kinds as port-compared-of-of
+use Rattle.port_rules.proofs.compared_of.Reads as port-compared-of
 use Rattle.port_rules.proofs.apart_step.Kinds as port-apart-step-of
 use Rattle.port_rules.proofs.apart_step.Reads as port-apart-step
-use Rattle.port_core.proofs.refused.Kinds as port-refused-of
-use Rattle.port_core.proofs.refused.Reads as port-refused
+use Rattle.port_core.proofs.refused_by.Kinds as port-refused-by-of
+use Rattle.port_core.proofs.refused_by.Reads as port-refused-by
 use Rattle.port_core.proofs.phy_at.Kinds as port-phy-at-of
 use Rattle.port_core.proofs.phy_at.Reads as port-phy-at
 use Rattle.port_core.proofs.timed.Kinds as port-timed-of
@@ -265,8 +265,8 @@ pub record Total : Type 2 where
   pub xl-status : Anything 0 xl-status-of.ps xl-status.Pre
   pub port-no-stamp : Anything 0 port-no-stamp-of.ps port-no-stamp.Pre
   pub port-stamped : Anything 0 port-stamped-of.ps port-stamped.Pre
-  pub port-disabled : Anything 0 port-disabled-of.ps port-disabled.Pre
-  pub port-freed : Anything 0 port-freed-of.ps port-freed.Pre
+  pub port-disabled-phy : Anything 0 port-disabled-phy-of.ps port-disabled-phy.Pre
+  pub port-blank : Anything 0 port-blank-of.ps port-blank.Pre
   pub port-slot : Anything 0 port-slot-of.ps port-slot.Pre
   pub port-no-pick : Anything 0 port-no-pick-of.ps port-no-pick.Pre
   pub port-chosen-step : Anything 0 port-chosen-step-of.ps port-chosen-step.Pre
@@ -282,9 +282,9 @@ pub record Total : Type 2 where
   pub port-has-frame-out : Anything 0 port-has-frame-out-of.ps port-has-frame-out.Pre
   pub port-port-rule : Anything 0 port-port-rule-of.ps port-port-rule.Pre
   pub port-request-rule : Anything 0 port-request-rule-of.ps port-request-rule.Pre
-  pub port-held-against : Anything 0 port-held-against-of.ps port-held-against.Pre
+  pub port-compared-of : Anything 0 port-compared-of-of.ps port-compared-of.Pre
   pub port-apart-step : Anything 0 port-apart-step-of.ps port-apart-step.Pre
-  pub port-refused : Anything 0 port-refused-of.ps port-refused.Pre
+  pub port-refused-by : Anything 0 port-refused-by-of.ps port-refused-by.Pre
   pub port-phy-at : Anything 0 port-phy-at-of.ps port-phy-at.Pre
   pub port-timed : Anything 0 port-timed-of.ps port-timed.Pre
   pub port-no-room : Anything 0 port-no-room-of.ps port-no-room.Pre
@@ -381,8 +381,8 @@ total = record {
   xl-status = λ κs a. tt;
   port-no-stamp = λ κs a. tt;
   port-stamped = λ κs a. tt;
-  port-disabled = λ κs a. tt;
-  port-freed = λ κs a. tt;
+  port-disabled-phy = λ κs a. tt;
+  port-blank = λ κs a. tt;
   port-slot = λ κs a. tt;
   port-no-pick = λ κs a. tt;
   port-chosen-step = λ κs a. tt;
@@ -398,9 +398,9 @@ total = record {
   port-has-frame-out = λ κs a. tt;
   port-port-rule = λ κs a. tt;
   port-request-rule = λ κs a. tt;
-  port-held-against = λ κs a. tt;
+  port-compared-of = λ κs a. tt;
   port-apart-step = λ κs a. tt;
-  port-refused = λ κs a. tt;
+  port-refused-by = λ κs a. tt;
   port-phy-at = λ κs a. tt;
   port-timed = λ κs a. tt;
   port-no-room = λ κs a. tt;

@@ -105,12 +105,12 @@ use Rattle.port_parts.proofs.no_stamp.Kinds as port-no-stamp-of
 use Rattle.port_parts.proofs.no_stamp.Reads as port-no-stamp
 use Rattle.port_parts.proofs.stamped.Kinds as port-stamped-of
 use Rattle.port_parts.proofs.stamped.Reads as port-stamped
-use Rattle.port_parts.proofs.disabled.Kinds as port-disabled-of
-use Rattle.port_parts.proofs.disabled.Reads as port-disabled
-use Rattle.port_parts.proofs.freed.Kinds as port-freed-of
-use Rattle.port_parts.proofs.freed.Reads as port-freed
-use Rattle.port_parts.proofs.slot.Kinds as port-slot-of
-use Rattle.port_parts.proofs.slot.Reads as port-slot
+use Rattle.port_parts.proofs.disabled_phy.Kinds as port-disabled-phy-of
+use Rattle.port_parts.proofs.disabled_phy.Reads as port-disabled-phy
+use Rattle.port_parts.proofs.blank.Kinds as port-blank-of
+use Rattle.port_parts.proofs.blank.Reads as port-blank
+use Rattle.port_parts.proofs.slot_at.Kinds as port-slot-of
+use Rattle.port_parts.proofs.slot_at.Reads as port-slot
 use Rattle.port_parts.proofs.no_pick.Kinds as port-no-pick-of
 use Rattle.port_parts.proofs.no_pick.Reads as port-no-pick
 use Rattle.port_parts.proofs.chosen_step.Kinds as port-chosen-step-of
@@ -139,12 +139,12 @@ use Rattle.port_rules.proofs.port_rule.Kinds as port-port-rule-of
 use Rattle.port_rules.proofs.port_rule.Reads as port-port-rule
 use Rattle.port_rules.proofs.request_rule.Kinds as port-request-rule-of
 use Rattle.port_rules.proofs.request_rule.Reads as port-request-rule
-use Rattle.port_rules.proofs.held_against.Kinds as port-held-against-of
-use Rattle.port_rules.proofs.held_against.Reads as port-held-against
+use Rattle.port_rules.proofs.compared_of.Kinds as port-compared-of-of
+use Rattle.port_rules.proofs.compared_of.Reads as port-compared-of
 use Rattle.port_rules.proofs.apart_step.Kinds as port-apart-step-of
 use Rattle.port_rules.proofs.apart_step.Reads as port-apart-step
-use Rattle.port_core.proofs.refused.Kinds as port-refused-of
-use Rattle.port_core.proofs.refused.Reads as port-refused
+use Rattle.port_core.proofs.refused_by.Kinds as port-refused-by-of
+use Rattle.port_core.proofs.refused_by.Reads as port-refused-by
 use Rattle.port_core.proofs.phy_at.Kinds as port-phy-at-of
 use Rattle.port_core.proofs.phy_at.Reads as port-phy-at
 use Rattle.port_core.proofs.timed.Kinds as port-timed-of
@@ -329,8 +329,8 @@ pub record Unique : Type 2 where
   pub xl-status : One 0 xl-status-of.ps xl-status-of.r (none 0 xl-status-of.ps xl-status-of.r) xl-status.Post
   pub port-no-stamp : One 0 port-no-stamp-of.ps port-no-stamp-of.r (none 0 port-no-stamp-of.ps port-no-stamp-of.r) port-no-stamp.Post
   pub port-stamped : One 0 port-stamped-of.ps port-stamped-of.r (none 0 port-stamped-of.ps port-stamped-of.r) port-stamped.Post
-  pub port-disabled : One 0 port-disabled-of.ps port-disabled-of.r (none 0 port-disabled-of.ps port-disabled-of.r) port-disabled.Post
-  pub port-freed : One 0 port-freed-of.ps port-freed-of.r (none 0 port-freed-of.ps port-freed-of.r) port-freed.Post
+  pub port-disabled-phy : One 0 port-disabled-phy-of.ps port-disabled-phy-of.r (none 0 port-disabled-phy-of.ps port-disabled-phy-of.r) port-disabled-phy.Post
+  pub port-blank : One 0 port-blank-of.ps port-blank-of.r (none 0 port-blank-of.ps port-blank-of.r) port-blank.Post
   pub port-slot : One 0 port-slot-of.ps port-slot-of.r (none 0 port-slot-of.ps port-slot-of.r) port-slot.Post
   pub port-no-pick : One 0 port-no-pick-of.ps port-no-pick-of.r (none 0 port-no-pick-of.ps port-no-pick-of.r) port-no-pick.Post
   pub port-chosen-step : One 0 port-chosen-step-of.ps port-chosen-step-of.r (none 0 port-chosen-step-of.ps port-chosen-step-of.r) port-chosen-step.Post
@@ -346,9 +346,9 @@ pub record Unique : Type 2 where
   pub port-has-frame-out : One 0 port-has-frame-out-of.ps port-has-frame-out-of.r (none 0 port-has-frame-out-of.ps port-has-frame-out-of.r) port-has-frame-out.Post
   pub port-port-rule : One 0 port-port-rule-of.ps port-port-rule-of.r (none 0 port-port-rule-of.ps port-port-rule-of.r) port-port-rule.Post
   pub port-request-rule : One 0 port-request-rule-of.ps port-request-rule-of.r (none 0 port-request-rule-of.ps port-request-rule-of.r) port-request-rule.Post
-  pub port-held-against : One 0 port-held-against-of.ps port-held-against-of.r (none 0 port-held-against-of.ps port-held-against-of.r) port-held-against.Post
+  pub port-compared-of : One 0 port-compared-of-of.ps port-compared-of-of.r (none 0 port-compared-of-of.ps port-compared-of-of.r) port-compared-of.Post
   pub port-apart-step : One 0 port-apart-step-of.ps port-apart-step-of.r (none 0 port-apart-step-of.ps port-apart-step-of.r) port-apart-step.Post
-  pub port-refused : One 0 port-refused-of.ps port-refused-of.r (none 0 port-refused-of.ps port-refused-of.r) port-refused.Post
+  pub port-refused-by : One 0 port-refused-by-of.ps port-refused-by-of.r (none 0 port-refused-by-of.ps port-refused-by-of.r) port-refused-by.Post
   pub port-phy-at : One 0 port-phy-at-of.ps port-phy-at-of.r (none 0 port-phy-at-of.ps port-phy-at-of.r) port-phy-at.Post
   pub port-timed : One 0 port-timed-of.ps port-timed-of.r (none 0 port-timed-of.ps port-timed-of.r) port-timed.Post
   pub port-no-room : One 0 port-no-room-of.ps port-no-room-of.r (none 0 port-no-room-of.ps port-no-room-of.r) port-no-room.Post
@@ -445,8 +445,8 @@ unique = record {
   xl-status = λ κs a x y s t p q. (p ∙ sym q, refl);
   port-no-stamp = λ κs a x y s t p q. (p ∙ sym q, refl);
   port-stamped = λ κs a x y s t p q. (p ∙ sym q, refl);
-  port-disabled = λ κs a x y s t p q. (p ∙ sym q, refl);
-  port-freed = λ κs a x y s t p q. (p ∙ sym q, refl);
+  port-disabled-phy = λ κs a x y s t p q. (p ∙ sym q, refl);
+  port-blank = λ κs a x y s t p q. (p ∙ sym q, refl);
   port-slot = λ κs a x y s t p q. (p ∙ sym q, refl);
   port-no-pick = λ κs a x y s t p q. (p ∙ sym q, refl);
   port-chosen-step = λ κs a x y s t p q. (p ∙ sym q, refl);
@@ -462,9 +462,9 @@ unique = record {
   port-has-frame-out = λ κs a x y s t p q. (p ∙ sym q, refl);
   port-port-rule = λ κs a x y s t p q. (p ∙ sym q, refl);
   port-request-rule = λ κs a x y s t p q. (p ∙ sym q, refl);
-  port-held-against = λ κs a x y s t p q. (p ∙ sym q, refl);
+  port-compared-of = λ κs a x y s t p q. (p ∙ sym q, refl);
   port-apart-step = λ κs a x y s t p q. (p ∙ sym q, refl);
-  port-refused = λ κs a x y s t p q. (p ∙ sym q, refl);
+  port-refused-by = λ κs a x y s t p q. (p ∙ sym q, refl);
   port-phy-at = λ κs a x y s t p q. (p ∙ sym q, refl);
   port-timed = λ κs a x y s t p q. (p ∙ sym q, refl);
   port-no-room = λ κs a x y s t p q. (p ∙ sym q, refl);

@@ -10,11 +10,11 @@ use lib.Dec.{eqb}
 use lib.ListN.{length, getD, getD-replicate}
 use borrow.Author.Tests.{eq-eqb, ne-eqb}
 use Rattle.laws.proofs.Maps.{map-length, map-at}
-use Rattle.port_parts.specs.Parts.{off, noPhy, blank}
+use Rattle.port_parts.specs.Parts.{disabledPhy, absentPhy, blank}
 use Rattle.port_parts.specs.declared.Phy.{Phy}
 use Rattle.port_parts.specs.declared.Request.{Request}
 use Rattle.port_rules.specs.Kept.{InRange, MustName, PhyKept, RequestKept, Kept}
-use Rattle.port_rows.specs.Answers.{fresh, bare}
+use Rattle.port_rows.specs.Answers.{fresh, unnamed}
 use Rattle.port_rows.specs.declared.Done.{Done}
 use Rattle.port_rows.specs.declared.Word.the-variants.{Taken}
 use Rattle.port_rows.specs.Records.{spread, leftStep}
@@ -45,10 +45,10 @@ module _ (l : List Request) (d : Done) (len : length l ≡ 32) where
         ∙ (λ k. cond (some k) blank (cond (ne-eqb i (d .answer .slot) other k) (d .entry) (spread (d .loss) (getD l i blank))))
 
 -- a disabled phy names none, and a free record is named by none
-off-kept : (count k : ℕ) → PhyKept count off k
+off-kept : (count k : ℕ) → PhyKept count disabledPhy k
 off-kept count k = record { stage = omega arith; protocol = omega arith; slot = omega arith; must = must; may = λ h. absurd (omega arith); past = inr refl }
   where
-    must : MustName off → 32 < 32
+    must : MustName disabledPhy → 32 < 32
     must (inl e) = absurd (omega arith)
     must (inr (inl e)) = absurd (omega arith)
     must (inr (inr e)) = absurd (omega arith)
@@ -56,15 +56,15 @@ off-kept count k = record { stage = omega arith; protocol = omega arith; slot = 
 blank-kept : (count loss i : ℕ) → i < 32 → RequestKept (fresh count loss) blank i
 blank-kept count loss i h =
     record {
-      paired = record { phy = λ e. absurd (omega arith); each = λ k m. (λ e. absurd (let none = ap (λ (f : Phy). f .slot) (getD-replicate 8 k off noPhy m) in omega arith), λ e. absurd (let busy = e .0 in omega arith)) };
+      paired = record { phy = λ e. absurd (omega arith); each = λ k m. (λ e. absurd (let none = ap (λ (f : Phy). f .slot) (getD-replicate 8 k disabledPhy absentPhy m) in omega arith), λ e. absurd (let busy = e .0 in omega arith)) };
       present = inl refl;
     }
 
-pub setup-kept : (count loss : ℕ) (l : List Request) → length l ≡ 32 → InRange count loss → Kept (fresh count loss) (leftOf l (bare (fresh count loss) Taken true))
+pub setup-kept : (count loss : ℕ) (l : List Request) → length l ≡ 32 → InRange count loss → Kept (fresh count loss) (leftOf l (unnamed (fresh count loss) Taken true))
 setup-kept count loss l len range =
     record {
       setup = range;
-      phys = λ k h. subst (λ (f : Phy). PhyKept count f k) (sym (getD-replicate 8 k off noPhy h)) (off-kept count k);
-      requests = λ i h. subst (λ (r : Request). RequestKept (fresh count loss) r i) (sym (left-at l (bare (fresh count loss) Taken true) i len h)) (blank-kept count loss i h);
-      apart = λ i j m n there other. absurd (there (ap (λ (r : Request). r .stage) (left-at l (bare (fresh count loss) Taken true) i len (omega arith))));
+      phys = λ k h. subst (λ (f : Phy). PhyKept count f k) (sym (getD-replicate 8 k disabledPhy absentPhy h)) (off-kept count k);
+      requests = λ i h. subst (λ (r : Request). RequestKept (fresh count loss) r i) (sym (left-at l (unnamed (fresh count loss) Taken true) i len h)) (blank-kept count loss i h);
+      apart = λ i j m n there other. absurd (there (ap (λ (r : Request). r .stage) (left-at l (unnamed (fresh count loss) Taken true) i len (omega arith))));
     }

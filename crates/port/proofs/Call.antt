@@ -44,18 +44,18 @@ use Rattle.port_rows.specs.declared.Done.{Done}
 use Rattle.port.specs.declared.Stepped.{Stepped}
 use Rattle.port_parts.specs.declared.Request.{Request}
 use Rattle.port_parts.specs.Parts.{blank}
-use Rattle.port.specs.Calls.{steppedOf, leftOf, Called}
-use Rattle.port.specs.Scans.{deed}
+use Rattle.port.specs.Calls.{answered, leftOf, Called}
+use Rattle.port.specs.Scans.{scanned}
 use Rattle.port.proofs.Turns.{served, refused, not-not}
-use Rattle.port_walks.proofs.Arg.{Arg, number}
-use Rattle.port_walks.proofs.Callees.{gives1, gives2, gives4, calls1, calls2, calls4, looks, scans}
-use Rattle.port_walks.proofs.Rec.{R, request}
+use Rattle.port_list.proofs.Arg.{Arg, number}
+use Rattle.port_list.proofs.Callees.{gives1, gives2, gives4, calls1, calls2, calls4, looks, scans}
+use Rattle.port_list.proofs.Rec.{R, request}
 use Rattle.port.proofs.Rows.{DoneR, done as doneᴬ, SteppedR, stepped as steppedᴬ}
-use Rattle.port_walks.proofs.Shared.{LentShared, shares-again, comes-back}
-use Rattle.port_walks.proofs.Lent.{sliceOf, ended, clauses, PostOf, exits, meets}
-use Rattle.port.proofs.load.Symbol.{name as #port·load}
-use Rattle.port.proofs.left as left′
-use Rattle.port.proofs.left.Symbol.{name as #port·left}
+use Rattle.port_list.proofs.Shared.{LentShared, shares-again, comes-back}
+use Rattle.port_list.proofs.Lent.{sliceOf, ended, clauses, PostOf, exits, meets}
+use Rattle.port.proofs.scans.load.Symbol.{name as #port·scans·load}
+use Rattle.port.proofs.leaves.left as left′
+use Rattle.port.proofs.leaves.left.Symbol.{name as #port·leaves·left}
 
 -- ---- the MIR
 module _ (ρ δ α π ξ θ φ : Ty) (#refuse #ask #scan #slot #core : Name) where
@@ -67,11 +67,11 @@ module _ (ρ δ α π ξ θ φ : Ty) (#refuse #ask #scan #slot #core : Name) whe
       (seq (call #slot (copy (place 5 []) ∷ copy (place 3 []) ∷ []) (place 6 []))
       (seq (assign (place 13 []) (addrOf (place 1 (field 0 ∷ deref ρ ∷ []))))
       (seq (assign (place 14 []) (aggregate (copy (place 13 []) ∷ copy (place 1 (field 1 ∷ [])) ∷ [])))
-      (seq (call #port·load (copy (place 14 []) ∷ copy (place 6 []) ∷ []) (place 7 []))
+      (seq (call #port·scans·load (copy (place 14 []) ∷ copy (place 6 []) ∷ []) (place 7 []))
       (seq (call #core (copy (place 2 []) ∷ copy (place 7 []) ∷ copy (place 5 []) ∷ copy (place 3 []) ∷ []) (place 8 []))
       (seq (assign (place 15 []) (addrOf (place 1 (field 0 ∷ deref ρ ∷ []))))
       (seq (assign (place 16 []) (aggregate (copy (place 15 []) ∷ copy (place 1 (field 1 ∷ [])) ∷ [])))
-      (seq (call #port·left (copy (place 16 []) ∷ copy (place 8 []) ∷ []) (place 0 [])) return)))))))))))
+      (seq (call #port·leaves·left (copy (place 16 []) ∷ copy (place 8 []) ∷ []) (place 0 [])) return)))))))))))
 
   abbrev pub function : Fn
   function = record {
@@ -97,10 +97,10 @@ module _ {M : Type 1} (𝓤 : URA M) (H : Heap 𝓤) (A : Atoms 𝓤) (mem : Mem
 
 module _ (𝓟 𝓧 𝓠 𝓕 : Arg) (Rfs : 𝓟 .X .Denot → Stepped) (Ask : 𝓟 .X .Denot → 𝓧 .X .Denot → 𝓠 .X .Denot) (Scan : List Request → 𝓠 .X .Denot → 𝓕 .X .Denot) (Slot : 𝓕 .X .Denot → 𝓧 .X .Denot → ℕ) (Core : 𝓟 .X .Denot → Request → 𝓕 .X .Denot → 𝓧 .X .Denot → Done) (Told : List Request → 𝓟 .X .Denot → 𝓧 .X .Denot → Done) where
   abbrev Deed : List Request → 𝓟 .X .Denot → 𝓧 .X .Denot → Done
-  Deed = deed Ask Scan Slot Core
+  Deed = scanned Ask Scan Slot Core
 
   abbrev Ans : List Request → 𝓟 .X .Denot → 𝓧 .X .Denot → Stepped
-  Ans ys p x = steppedOf (Told ys p x)
+  Ans ys p x = answered (Told ys p x)
 
   abbrev Lst : List Request → 𝓟 .X .Denot → 𝓧 .X .Denot → List Request
   Lst ys p x = leftOf ys (Told ys p x)
@@ -151,7 +151,7 @@ module _ (𝓟 𝓧 𝓠 𝓕 : Arg) (Rfs : 𝓟 .X .Denot → Stepped) (Ask : �
 
     -- the locals' types, and that what is stored in each has its type
     module _ (ρ δ α π ξ θ φ : Ty) (#refuse #ask #scan #slot #core : Name) (typed-p : T (hasTy π vp) × WT vp) (typed-x : T (hasTy ξ vx) × WT vx) (typed-q : (c : 𝓠 .X .Denot) (u : Val) → Is (𝓠 .X) c (u ∷ []) → T (hasTy θ u) × WT u) (typed-f : (f : 𝓕 .X .Denot) (u : Val) → Is (𝓕 .X) f (u ∷ []) → T (hasTy φ u) × WT u) (typed-r : (e : Request) (u : Val) → Is R e (u ∷ []) → T (hasTy ρ u) × WT u) (typed-d : (d : Done) (u : Val) → Is DoneR d (u ∷ []) → T (hasTy δ u) × WT u) (typed-y : (y : Stepped) (u : Val) → Is SteppedR y (u ∷ []) → T (hasTy α u) × WT u)
-        (C : Calls 𝓤 H) (Λ : Loops 𝓤 H) (fm : FmC 𝓤 H (W .laws) C) (known-refuse : Triple 𝓤 (C #refuse) (gives1 𝓟 steppedᴬ Rfs 𝓤 H A)) (known-ask : Triple 𝓤 (C #ask) (gives2 𝓟 𝓧 𝓠 Ask 𝓤 H A)) (known-scan : Triple 𝓤 (C #scan) (looks 𝓠 𝓕 Scan 𝓤 H A)) (known-slot : Triple 𝓤 (C #slot) (gives2 𝓕 𝓧 (number w64) Slot 𝓤 H A)) (known-load : Triple 𝓤 (C #port·load) (looks (number w64) request recordAt 𝓤 H A)) (known-core : Triple 𝓤 (C #core) (gives4 𝓟 request 𝓕 𝓧 doneᴬ Core 𝓤 H A)) (known-apply : Triple 𝓤 (C #port·left) (Apply 𝓤 H A at-mem run)) where
+        (C : Calls 𝓤 H) (Λ : Loops 𝓤 H) (fm : FmC 𝓤 H (W .laws) C) (known-refuse : Triple 𝓤 (C #refuse) (gives1 𝓟 steppedᴬ Rfs 𝓤 H A)) (known-ask : Triple 𝓤 (C #ask) (gives2 𝓟 𝓧 𝓠 Ask 𝓤 H A)) (known-scan : Triple 𝓤 (C #scan) (looks 𝓠 𝓕 Scan 𝓤 H A)) (known-slot : Triple 𝓤 (C #slot) (gives2 𝓕 𝓧 (number w64) Slot 𝓤 H A)) (known-load : Triple 𝓤 (C #port·scans·load) (looks (number w64) request recordAt 𝓤 H A)) (known-core : Triple 𝓤 (C #core) (gives4 𝓟 request 𝓕 𝓧 doneᴬ Core 𝓤 H A)) (known-apply : Triple 𝓤 (C #port·leaves·left) (Apply 𝓤 H A at-mem run)) where
       walk : ent 𝓤 (onEntry 𝓤 H A (ended 𝓟 𝓧 steppedᴬ .signature) (κ, tt) (q, tt) arg at) (WpFn 𝓤 H C Λ (function ρ δ α π ξ θ φ #refuse #ask #scan #slot #core) (s ∷ vp ∷ vx ∷ []) Post)
       walk =
           qed W ((‵ (flft κ q) ⊛ ‵ ftrue) ∷ ‵ (owns (MutSlice (named 0) κ R ∷ 𝓟 .X ∷ 𝓧 .X ∷ []) arg at) ∷ []) ∵ enter ! C Λ (function ρ δ α π ξ θ φ #refuse #ask #scan #slot #core) (s ∷ vp ∷ vx ∷ []) _ $
@@ -199,18 +199,18 @@ module _ (𝓟 𝓧 𝓠 𝓕 : Arg) (Rfs : 𝓟 .X .Denot → Stepped) (Ask : �
           move ! (1 ∷ 2 ∷ []) $ join ! $ use2 W (raw (Apply 𝓤 H A at-mem run .pre (to-apply wd))) (goes-apply wd id len) $
           calls-at ! fm (Apply 𝓤 H A at-mem run) known-apply (to-apply wd) (and-then ! (load ! (from ! (stop !)) (look ! 4 refl)) (and-then ! (load ! (from ! (stop !)) (look ! 20 refl)) (no-more !))) (λ w.
           use1 W (later (some (λ (y : Stepped). ((‵ (flft κ q) ⊛ ‵ ftrue) ⊛ ‵ (SteppedR .own y (w ∷ []))) ⊛ raw (ensured 𝓤 H A left′.ended (left′.clauses 𝓤 H A at-mem run) (κ, tt) (sl γ, (d, tt)) tt y)))) (id⊢ 𝓤 _) $ await ! tt $ pick ! (λ y.
-          split ! $ move ! (1 ∷ []) $ use1 W (some (λ (zs : List Request × (Unit {0} × Unit {0})). ‵ (lasts left′.ended (κ, tt) (sl γ, (d, tt)) zs) ⊛ raw (fact 𝓤 ((y ≡ steppedOf d) × (zs .0 ≡ leftOf ys d))))) (id⊢ 𝓤 _) $ pick ! (λ zs.
-          split ! $ move ! (1 ∷ []) $ heard ! ((y ≡ steppedOf d) × (zs .0 ≡ leftOf ys d)) (λ e. fsplit ! $ fsplit ! $ move ! (1 ∷ []) $ feqL ! (λ l.
+          split ! $ move ! (1 ∷ []) $ use1 W (some (λ (zs : List Request × (Unit {0} × Unit {0})). ‵ (lasts left′.ended (κ, tt) (sl γ, (d, tt)) zs) ⊛ raw (fact 𝓤 ((y ≡ answered d) × (zs .0 ≡ leftOf ys d))))) (id⊢ 𝓤 _) $ pick ! (λ zs.
+          split ! $ move ! (1 ∷ []) $ heard ! ((y ≡ answered d) × (zs .0 ≡ leftOf ys d)) (λ e. fsplit ! $ fsplit ! $ move ! (1 ∷ []) $ feqL ! (λ l.
           move ! (2 ∷ []) $ split ! $ move ! (1 ∷ []) $ facts ! SteppedR (Is SteppedR) (shows 𝓤 H A SteppedR) y (w ∷ []) (λ iy.
           -- [the token; the last list; true; true; true; p's and x's; the locals from 6]
           land ! (from ! (stop !)) (init ! 38 refl (typed-y y w iy)) $
           returns ! (look ! 38 refl) $ forget ! 6 refl $ forget ! 8 refl $ forget ! 10 refl $ forget ! 12 refl $ forget ! 14 refl $ forget ! 16 refl $ forget ! 18 refl $ forget ! 20 refl $ forget ! 22 refl $ forget ! 24 refl $ forget ! 26 refl $ forget ! 28 refl $ forget ! 30 refl $ forget ! 32 refl $ forget ! 34 refl $ forget ! 36 refl $ forget ! 38 refl $
           move ! (38 ∷ 39 ∷ []) $ free1 ! $ move ! (36 ∷ 37 ∷ []) $ free1 ! $ move ! (34 ∷ 35 ∷ []) $ free1 ! $ move ! (32 ∷ 33 ∷ []) $ free1 ! $ move ! (30 ∷ 31 ∷ []) $ free1 ! $ move ! (28 ∷ 29 ∷ []) $ free1 ! $ move ! (26 ∷ 27 ∷ []) $ free1 ! $ move ! (24 ∷ 25 ∷ []) $ free1 ! $ move ! (22 ∷ 23 ∷ []) $ free1 ! $ move ! (20 ∷ 21 ∷ []) $ free1 ! $ move ! (18 ∷ 19 ∷ []) $ free1 ! $ move ! (16 ∷ 17 ∷ []) $ free1 ! $ move ! (14 ∷ 15 ∷ []) $ free1 ! $ move ! (12 ∷ 13 ∷ []) $ free1 ! $ move ! (10 ∷ 11 ∷ []) $ free1 ! $ move ! (8 ∷ 9 ∷ []) $ free1 ! $ move ! (6 ∷ 7 ∷ []) $ free1 ! $ free0 ! $
           let same : d ≡ Told ys p x = told-is ys p x in
-          keep ! (0 ∷ 1 ∷ []) $ by ! (exits 𝓟 𝓧 steppedᴬ Promise 𝓤 H A W κ q b o γ ys p x vp vx w y (zs .0) (e .0 ∙ ap steppedOf same ∙ served ys (Ans ys p x) (Rfs p) right, e .1 ∙ ap (leftOf ys) same ∙ served ys (Lst ys p x) ys right) l iy))))))))))))))))))))))))))))))))))
+          keep ! (0 ∷ 1 ∷ []) $ by ! (exits 𝓟 𝓧 steppedᴬ Promise 𝓤 H A W κ q b o γ ys p x vp vx w y (zs .0) (e .0 ∙ ap answered same ∙ served ys (Ans ys p x) (Rfs p) right, e .1 ∙ ap (leftOf ys) same ∙ served ys (Lst ys p x) ys right) l iy))))))))))))))))))))))))))))))))))
 
   module _ (told-is : (ys : List Request) (p : 𝓟 .X .Denot) (x : 𝓧 .X .Denot) → Deed ys p x ≡ Told ys p x) (ρ δ α π ξ θ φ : Ty) (#refuse #ask #scan #slot #core : Name) (typed-p : (p : 𝓟 .X .Denot) (u : Val) → Is (𝓟 .X) p (u ∷ []) → T (hasTy π u) × WT u) (typed-x : (x : 𝓧 .X .Denot) (u : Val) → Is (𝓧 .X) x (u ∷ []) → T (hasTy ξ u) × WT u) (typed-q : (c : 𝓠 .X .Denot) (u : Val) → Is (𝓠 .X) c (u ∷ []) → T (hasTy θ u) × WT u) (typed-f : (f : 𝓕 .X .Denot) (u : Val) → Is (𝓕 .X) f (u ∷ []) → T (hasTy φ u) × WT u) (typed-r : (e : Request) (u : Val) → Is R e (u ∷ []) → T (hasTy ρ u) × WT u) (typed-d : (d : Done) (u : Val) → Is DoneR d (u ∷ []) → T (hasTy δ u) × WT u) (typed-y : (y : Stepped) (u : Val) → Is SteppedR y (u ∷ []) → T (hasTy α u) × WT u)
-      {M : Type 1} (𝓤 : URA M) (H : Heap 𝓤) (A : Atoms 𝓤) (W : Given 𝓤 H A) (mem : Memory → SProp 𝓤) (run : Routine → Fun 𝓤) (𝓣 : Tables 𝓤 H) (known-refuse : Triple 𝓤 (𝓣 .C #refuse) (gives1 𝓟 steppedᴬ Rfs 𝓤 H A)) (known-ask : Triple 𝓤 (𝓣 .C #ask) (gives2 𝓟 𝓧 𝓠 Ask 𝓤 H A)) (known-scan : Triple 𝓤 (𝓣 .C #scan) (looks 𝓠 𝓕 Scan 𝓤 H A)) (known-slot : Triple 𝓤 (𝓣 .C #slot) (gives2 𝓕 𝓧 (number w64) Slot 𝓤 H A)) (known-load : Triple 𝓤 (𝓣 .C #port·load) (looks (number w64) request recordAt 𝓤 H A)) (known-core : Triple 𝓤 (𝓣 .C #core) (gives4 𝓟 request 𝓕 𝓧 doneᴬ Core 𝓤 H A)) (known-apply : Triple 𝓤 (𝓣 .C #port·left) (Apply 𝓤 H A mem run)) where
+      {M : Type 1} (𝓤 : URA M) (H : Heap 𝓤) (A : Atoms 𝓤) (W : Given 𝓤 H A) (mem : Memory → SProp 𝓤) (run : Routine → Fun 𝓤) (𝓣 : Tables 𝓤 H) (known-refuse : Triple 𝓤 (𝓣 .C #refuse) (gives1 𝓟 steppedᴬ Rfs 𝓤 H A)) (known-ask : Triple 𝓤 (𝓣 .C #ask) (gives2 𝓟 𝓧 𝓠 Ask 𝓤 H A)) (known-scan : Triple 𝓤 (𝓣 .C #scan) (looks 𝓠 𝓕 Scan 𝓤 H A)) (known-slot : Triple 𝓤 (𝓣 .C #slot) (gives2 𝓕 𝓧 (number w64) Slot 𝓤 H A)) (known-load : Triple 𝓤 (𝓣 .C #port·scans·load) (looks (number w64) request recordAt 𝓤 H A)) (known-core : Triple 𝓤 (𝓣 .C #core) (gives4 𝓟 request 𝓕 𝓧 doneᴬ Core 𝓤 H A)) (known-apply : Triple 𝓤 (𝓣 .C #port·leaves·left) (Apply 𝓤 H A mem run)) where
     pub call-meets : Meets 𝓤 H A (ended 𝓟 𝓧 steppedᴬ .signature) (WpFn 𝓤 H (𝓣 .C) (𝓣 .Λ) (function ρ δ α π ξ θ φ #refuse #ask #scan #slot #core)) (closing 𝓤 H A (ended 𝓟 𝓧 steppedᴬ) (clauses 𝓟 𝓧 steppedᴬ Promise 𝓤))
     call-meets = meets 𝓟 𝓧 steppedᴬ Promise 𝓤 H A W 𝓣 (function ρ δ α π ξ θ φ #refuse #ask #scan #slot #core) (λ κ q b o γ ys p x vp vx room gp gx.
         walk told-is 𝓤 H A W mem run κ q b o γ ys p x vp vx room gp gx ρ δ α π ξ θ φ #refuse #ask #scan #slot #core (typed-p p vp gp) (typed-x x vx gx) typed-q typed-f typed-r typed-d typed-y (𝓣 .C) (𝓣 .Λ) (fmOf 𝓤 H (W .laws) 𝓣) known-refuse known-ask known-scan known-slot known-load known-core known-apply)

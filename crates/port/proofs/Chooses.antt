@@ -12,13 +12,13 @@ use Rattle.port_parts.specs.declared.Port.{Port}
 use Rattle.port_parts.specs.declared.Request.{Request}
 use Rattle.port_rules.specs.Rules.{rules}
 use Rattle.port_rows.specs.Answers.{refusedBy}
-use Rattle.port_rows.specs.Calls.{sent, opening, closing, chosen, chooseCauses, chooseOf}
+use Rattle.port_rows.specs.Calls.{sent, opening, closing, chosen, chooseCauses, chooseCore}
 use Rattle.port_rows.specs.declared.Done.{Done}
 use Rattle.port_rows.specs.declared.Word.the-variants.{Nothing, Send, Open, Close}
-use Rattle.port.specs.Calls.{pickAt, steppedOf}
+use Rattle.port.specs.Calls.{pickAt, answered}
 use Rattle.port.specs.Chooses.{wordFor, Tells}
 use Rattle.port.specs.History.{State, choose, doneOf, steppedBy, isRefused}
-use Rattle.port.specs.declared.Moment.{Moment}
+use Rattle.port.specs.declared.Time.{Time}
 use Rattle.port.specs.declared.Stepped.{Stepped}
 
 module _ (p : Port) (r : Request) (b : Pick) (now : ℕ) where
@@ -46,8 +46,8 @@ module _ (p : Port) (r : Request) (b : Pick) (now : ℕ) where
       none : eqb (b .step) 1 ≡ false → eqb (b .step) 2 ≡ false → eqb (b .step) 3 ≡ false → wordFor (b .step) ≡ Nothing
       none e f g = λ i. cond (e i) Send (cond (f i) Open (cond (g i) Close Nothing))
 
-pub choose-tells : (s : State) (x : Moment) → isRefused (steppedBy (choose x) s .answer .word) ≡ false → Tells (pickAt (s .list) (s .port) (x .now)) (steppedBy (choose x) s .answer)
-unfolding doneOf chooseOf
+pub choose-tells : (s : State) (x : Time) → isRefused (steppedBy (choose x) s .answer .word) ≡ false → Tells (pickAt (s .list) (s .port) (x .now)) (steppedBy (choose x) s .answer)
+unfolding doneOf chooseCore
 choose-tells s x = by-test P (eqb (length (s .list)) 32) (λ _. done) (λ _ e. absurd (never (sym e)))
   where
     b : Pick
@@ -59,7 +59,7 @@ choose-tells s x = by-test P (eqb (length (s .list)) 32) (λ _. done) (λ _ e. a
     P : Stepped → Type 0
     P t = isRefused (t .answer .word) ≡ false → Tells b (t .answer)
 
-    done : P (steppedOf (doneOf (choose x) s))
+    done : P (answered (doneOf (choose x) s))
     done =
-        by-causes (λ (d : Done). P (steppedOf d)) (refusedBy (s .port)) (λ k e. absurd (never (sym e))) (chooseCauses (s .port) (rules (s .port) (s .list)) (x .now))
+        by-causes (λ (d : Done). P (answered d)) (refusedBy (s .port)) (λ k e. absurd (never (sym e))) (chooseCauses (s .port) (rules (s .port) (s .list)) (x .now))
         (chosen (s .port) r b (x .now)) (λ _ _. chosen-tells (s .port) r b (x .now))

@@ -3,8 +3,10 @@ pub mod Rows
 mod Turns
 mod Still
 mod Call
-pub mod Told
+pub mod Scanned
 pub mod Promised
+pub mod Found
+pub mod Decides
 pub mod Refusals
 pub mod Begins
 pub mod Chooses

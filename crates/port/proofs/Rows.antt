@@ -7,15 +7,15 @@ use types.Kit.{Given}
 use denote.RattleType.{RattleType}
 use denote.Laws.{Lawful}
 use denote.Struct.Laws as LL
-use Rattle.port_walks.proofs.Arg.{Arg}
-use Rattle.port_rules.proofs.Against as Against′
-use Rattle.port_rules.proofs.Against.Laws as Against″
+use Rattle.port_list.proofs.Arg.{Arg}
+use Rattle.port_rules.proofs.Compared as Compared′
+use Rattle.port_rules.proofs.Compared.Laws as Compared″
 use Rattle.port_parts.proofs.Port as Port′
 use Rattle.port_parts.proofs.Port.Laws as Port″
 use Rattle.port_rows.proofs.Done as Done′
 use Rattle.port_rows.proofs.Done.Laws as Done″
-use Rattle.port_rows.proofs.Wish as Wish′
-use Rattle.port_rows.proofs.Wish.Laws as Wish″
+use Rattle.port_rows.proofs.Submission as Submission′
+use Rattle.port_rows.proofs.Submission.Laws as Submission″
 use Rattle.port_rows.proofs.Withdrawn as Withdrawn′
 use Rattle.port_rows.proofs.Withdrawn.Laws as Withdrawn″
 use Rattle.port_rows.proofs.Confirmed as Confirmed′
@@ -26,8 +26,8 @@ use Rattle.port_rows.proofs.Report as Report′
 use Rattle.port_rows.proofs.Report.Laws as Report″
 use Rattle.port.proofs.Stepped as Stepped′
 use Rattle.port.proofs.Stepped.Laws as Stepped″
-use Rattle.port.proofs.Moment as Moment′
-use Rattle.port.proofs.Moment.Laws as Moment″
+use Rattle.port.proofs.Time as Time′
+use Rattle.port.proofs.Time.Laws as Time″
 use Rattle.port.proofs.Sought as Sought′
 use Rattle.port.proofs.Sought.Laws as Sought″
 use Rattle.port.proofs.Named as Named′
@@ -43,14 +43,14 @@ use Rattle.port.proofs.Choosing.Laws as Choosing″
 use Rattle.port.proofs.Choice as Choice′
 use Rattle.port.proofs.Choice.Laws as Choice″
 
-abbrev pub AgainstR : RattleType
-AgainstR = Against′.the-row
+abbrev pub ComparedR : RattleType
+ComparedR = Compared′.the-row
 
-abbrev pub against : Arg
-against = record { X = AgainstR; val = LL.val Against′.the-type Against″.the-laws; tells = LL.tells Against′.the-type Against″.the-laws; makes = λ 𝓤 H A W. LL.makes Against′.the-type Against″.the-plain 𝓤 H A; last = λ x. tt; silent = λ 𝓤 H A W κs x f. refl }
+abbrev pub compared : Arg
+compared = record { X = ComparedR; val = LL.val Compared′.the-type Compared″.the-laws; tells = LL.tells Compared′.the-type Compared″.the-laws; makes = λ 𝓤 H A W. LL.makes Compared′.the-type Compared″.the-plain 𝓤 H A; last = λ x. tt; silent = λ 𝓤 H A W κs x f. refl }
 
-pub against-lawful : {M : Type 1} (𝓤 : URA M) (H : Heap 𝓤) (A : Atoms 𝓤) → Given 𝓤 H A → Lawful 𝓤 H A AgainstR
-against-lawful 𝓤 H A W = LL.lawful Against′.the-type Against″.the-laws 𝓤 H A W
+pub compared-lawful : {M : Type 1} (𝓤 : URA M) (H : Heap 𝓤) (A : Atoms 𝓤) → Given 𝓤 H A → Lawful 𝓤 H A ComparedR
+compared-lawful 𝓤 H A W = LL.lawful Compared′.the-type Compared″.the-laws 𝓤 H A W
 
 abbrev pub PortR : RattleType
 PortR = Port′.the-row
@@ -70,14 +70,14 @@ done = record { X = DoneR; val = LL.val Done′.the-type Done″.the-laws; tells
 pub done-lawful : {M : Type 1} (𝓤 : URA M) (H : Heap 𝓤) (A : Atoms 𝓤) → Given 𝓤 H A → Lawful 𝓤 H A DoneR
 done-lawful 𝓤 H A W = LL.lawful Done′.the-type Done″.the-laws 𝓤 H A W
 
-abbrev pub WishR : RattleType
-WishR = Wish′.the-row
+abbrev pub SubmissionR : RattleType
+SubmissionR = Submission′.the-row
 
-abbrev pub wish : Arg
-wish = record { X = WishR; val = LL.val Wish′.the-type Wish″.the-laws; tells = LL.tells Wish′.the-type Wish″.the-laws; makes = λ 𝓤 H A W. LL.makes Wish′.the-type Wish″.the-plain 𝓤 H A; last = λ x. tt; silent = λ 𝓤 H A W κs x f. refl }
+abbrev pub submission : Arg
+submission = record { X = SubmissionR; val = LL.val Submission′.the-type Submission″.the-laws; tells = LL.tells Submission′.the-type Submission″.the-laws; makes = λ 𝓤 H A W. LL.makes Submission′.the-type Submission″.the-plain 𝓤 H A; last = λ x. tt; silent = λ 𝓤 H A W κs x f. refl }
 
-pub wish-lawful : {M : Type 1} (𝓤 : URA M) (H : Heap 𝓤) (A : Atoms 𝓤) → Given 𝓤 H A → Lawful 𝓤 H A WishR
-wish-lawful 𝓤 H A W = LL.lawful Wish′.the-type Wish″.the-laws 𝓤 H A W
+pub submission-lawful : {M : Type 1} (𝓤 : URA M) (H : Heap 𝓤) (A : Atoms 𝓤) → Given 𝓤 H A → Lawful 𝓤 H A SubmissionR
+submission-lawful 𝓤 H A W = LL.lawful Submission′.the-type Submission″.the-laws 𝓤 H A W
 
 abbrev pub WithdrawnR : RattleType
 WithdrawnR = Withdrawn′.the-row
@@ -124,14 +124,14 @@ stepped = record { X = SteppedR; val = LL.val Stepped′.the-type Stepped″.the
 pub stepped-lawful : {M : Type 1} (𝓤 : URA M) (H : Heap 𝓤) (A : Atoms 𝓤) → Given 𝓤 H A → Lawful 𝓤 H A SteppedR
 stepped-lawful 𝓤 H A W = LL.lawful Stepped′.the-type Stepped″.the-laws 𝓤 H A W
 
-abbrev pub MomentR : RattleType
-MomentR = Moment′.the-row
+abbrev pub TimeR : RattleType
+TimeR = Time′.the-row
 
-abbrev pub moment : Arg
-moment = record { X = MomentR; val = LL.val Moment′.the-type Moment″.the-laws; tells = LL.tells Moment′.the-type Moment″.the-laws; makes = λ 𝓤 H A W. LL.makes Moment′.the-type Moment″.the-plain 𝓤 H A; last = λ x. tt; silent = λ 𝓤 H A W κs x f. refl }
+abbrev pub time : Arg
+time = record { X = TimeR; val = LL.val Time′.the-type Time″.the-laws; tells = LL.tells Time′.the-type Time″.the-laws; makes = λ 𝓤 H A W. LL.makes Time′.the-type Time″.the-plain 𝓤 H A; last = λ x. tt; silent = λ 𝓤 H A W κs x f. refl }
 
-pub moment-lawful : {M : Type 1} (𝓤 : URA M) (H : Heap 𝓤) (A : Atoms 𝓤) → Given 𝓤 H A → Lawful 𝓤 H A MomentR
-moment-lawful 𝓤 H A W = LL.lawful Moment′.the-type Moment″.the-laws 𝓤 H A W
+pub time-lawful : {M : Type 1} (𝓤 : URA M) (H : Heap 𝓤) (A : Atoms 𝓤) → Given 𝓤 H A → Lawful 𝓤 H A TimeR
+time-lawful 𝓤 H A W = LL.lawful Time′.the-type Time″.the-laws 𝓤 H A W
 
 abbrev pub SoughtR : RattleType
 SoughtR = Sought′.the-row

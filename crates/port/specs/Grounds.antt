@@ -9,7 +9,8 @@ use Rattle.refusals.specs.Causes.{Ground, _if_}
 use Rattle.refusals.specs.declared.Refusal.{Refusal}
 use Rattle.open_frame.specs.Open.{headListed}
 use Rattle.open_frame.specs.declared.Head.{Head}
-use Rattle.port_parts.specs.Parts.{blank}
+use Rattle.port_parts.specs.Parts.{yes, blank}
+use Rattle.port_parts.specs.PhyStage as phy-stage
 use Rattle.port_parts.specs.Reasons.{reasons}
 use Rattle.port_parts.specs.declared.Phy.{Phy}
 use Rattle.port_parts.specs.declared.Request.{Request}
@@ -53,11 +54,12 @@ pub record Cancelled (l : List Request) (x : Key) : Type 0 where
   pub slot : ℕ
   pub below : slot < 32
   pub has : HasKey (getD l slot blank) x
-  pub already : getD l slot blank .cancelled ≡ 1
+  pub already : getD l slot blank .cancelled ≡ yes
 
 -- connected or closing
 abbrev pub Joined : Phy → Type 0
-Joined f = ((f .stage ≡ 3) ⊎ (f .stage ≡ 4)) ⊎ ((f .stage ≡ 5) ⊎ (f .stage ≡ 6))
+Joined f =
+    ((f .stage ≡ phy-stage.idle) ⊎ (f .stage ≡ phy-stage.sending)) ⊎ ((f .stage ≡ phy-stage.closing) ⊎ (f .stage ≡ phy-stage.closingSending))
 
 abbrev pub phyGrounds : State → ℕ → ℕ → Type 0 → List Ground
 phyGrounds s k now unfit =
@@ -84,10 +86,10 @@ groundsOf (submit x) s =
     ∷ []
 groundsOf (cancel x) s = cancelGrounds s x (Absent (s .list) (x .key) ⊎ Cancelled (s .list) (x .key))
 groundsOf (choose x) s = (Refusal.Length if Wrong s) ∷ (Refusal.Rules if Broken s) ∷ (Refusal.Past if (x .now < s .port .last)) ∷ []
-groundsOf (opened x) s = (Refusal.Length if Wrong s) ∷ phyGrounds s (x .phy) (x .now) (phyAt (s .port) (x .phy) .stage ≡ 2 → ⊥)
+groundsOf (opened x) s = (Refusal.Length if Wrong s) ∷ phyGrounds s (x .phy) (x .now) (phyAt (s .port) (x .phy) .stage ≡ phy-stage.opening → ⊥)
 groundsOf (openFailed x) s =
-    (Refusal.Length if Wrong s) ∷ (Refusal.Unlisted if (x .why < length reasons → ⊥)) ∷ phyGrounds s (x .phy) (x .now) (phyAt (s .port) (x .phy) .stage ≡ 2 → ⊥)
+    (Refusal.Length if Wrong s) ∷ (Refusal.Unlisted if (x .why < length reasons → ⊥)) ∷ phyGrounds s (x .phy) (x .now) (phyAt (s .port) (x .phy) .stage ≡ phy-stage.opening → ⊥)
 groundsOf (frameStatus x) s = (Refusal.Length if Wrong s) ∷ phyGrounds s (x .phy) (x .now) (FrameOut (phyAt (s .port) (x .phy)) → ⊥)
 groundsOf (closed x) s = (Refusal.Length if Wrong s) ∷ phyGrounds s (x .phy) (x .now) (Joined (phyAt (s .port) (x .phy)) → ⊥)
-groundsOf (enable x) s = (Refusal.Length if Wrong s) ∷ phyGrounds s (x .phy) (x .now) (phyAt (s .port) (x .phy) .stage ≡ 0 → ⊥)
-groundsOf (disable x) s = (Refusal.Length if Wrong s) ∷ phyGrounds s (x .phy) (x .now) (phyAt (s .port) (x .phy) .stage ≡ 0)
+groundsOf (enable x) s = (Refusal.Length if Wrong s) ∷ phyGrounds s (x .phy) (x .now) (phyAt (s .port) (x .phy) .stage ≡ phy-stage.disabled → ⊥)
+groundsOf (disable x) s = (Refusal.Length if Wrong s) ∷ phyGrounds s (x .phy) (x .now) (phyAt (s .port) (x .phy) .stage ≡ phy-stage.disabled)

@@ -8,13 +8,13 @@ use Rattle.port_rows.specs.declared.Answer.{Answer}
 use Rattle.port_rows.specs.declared.Done.{Done}
 use Rattle.port_rows.specs.declared.Word.{Word}
 use Rattle.port_rows.specs.declared.Word.the-variants.{Taken, Submitted, Nothing, Send, Open, Close, StopArb, Retried, Waiting, CancelAcknowledged, Ended, NexusLoss, ConnectionLost, Status, Refused}
-use Rattle.port_rows.specs.declared.Wish.{Wish}
+use Rattle.port_rows.specs.declared.Submission.{Submission}
 use Rattle.port_rows.specs.declared.Withdrawn.{Withdrawn}
 use Rattle.port_rows.specs.declared.Confirmed.{Confirmed}
 use Rattle.port_rows.specs.declared.Failure.{Failure}
 use Rattle.port_rows.specs.declared.Report.{Report}
-use Rattle.port.specs.Calls.{leftOf, steppedOf, on32, short, shortSetup, Called, setupCall, submitCall, cancelCall, chooseCall, openedCall, openFailedCall, frameStatusCall, closedCall, enableCall, disableCall}
-use Rattle.port.specs.declared.Moment.{Moment}
+use Rattle.port.specs.Calls.{leftOf, answered, on32, short, shortSetup, Called, setupCall, submitCall, cancelCall, chooseCall, openedCall, openFailedCall, frameStatusCall, closedCall, enableCall, disableCall}
+use Rattle.port.specs.declared.Time.{Time}
 use Rattle.port.specs.declared.Stepped.{Stepped}
 
 -- the port and the list that its caller lends
@@ -24,9 +24,9 @@ pub record State : Type 0 where
 
 pub data Call : Type 0 where
   setup : ℕ → ℕ → Call
-  submit : Wish → Call
+  submit : Submission → Call
   cancel : Withdrawn → Call
-  choose : Moment → Call
+  choose : Time → Call
   opened : Confirmed → Call
   openFailed : Failure → Call
   frameStatus : Report → Call
@@ -65,7 +65,7 @@ Does c s r after = Called (s .list) (doneOf c s) (shortOf c s) r after
 
 -- what the call answers
 abbrev pub steppedBy : Call → State → Stepped
-steppedBy c s = on32 (s .list) (steppedOf (doneOf c s)) (shortOf c s)
+steppedBy c s = on32 (s .list) (answered (doneOf c s)) (shortOf c s)
 
 abbrev pub isRefused : Word → Bool
 isRefused Taken = false

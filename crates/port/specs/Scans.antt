@@ -5,21 +5,21 @@ use mathlib.Core.Bool.{Bool, true, _&&_}
 use mathlib.Core.List.{List}
 use lib.ListN.{getD}
 use Rattle.laws.specs.Folds.{foldTo}
-use Rattle.port_parts.specs.Parts.{none, noHead, blank}
-use Rattle.port_parts.specs.Choice.{nothing, chosenStep}
+use Rattle.port_parts.specs.Parts.{noSlot, noStamp, noHead, blank}
+use Rattle.port_parts.specs.Choice.{noPick, chosenStep}
 use Rattle.port_parts.specs.declared.Port.{Port}
 use Rattle.port_parts.specs.declared.Request.{Request}
-use Rattle.port_rules.specs.Rules.{portRule, requestRule, apartFrom, againstOf}
-use Rattle.port_rules.specs.declared.Against.{Against}
+use Rattle.port_rules.specs.Rules.{portRule, requestRule, apartFrom, comparedOf}
+use Rattle.port_rules.specs.declared.Compared.{Compared}
 use Rattle.port_rows.specs.Finds.{noRoom, roomStep, keyStep}
-use Rattle.port_rows.specs.Calls.{phyAt, setupOf, submitOf, cancelOf, chooseOf, openedOf, openFailedOf, frameStatusOf, closedOf, enableOf, disableOf}
+use Rattle.port_rows.specs.Calls.{phyAt, setupCore, submitCore, cancelCore, chooseCore, openedCore, openFailedCore, frameStatusCore, closedCore, enableCore, disableCore}
 use Rattle.port_rows.specs.declared.Done.{Done}
-use Rattle.port_rows.specs.declared.Wish.{Wish}
+use Rattle.port_rows.specs.declared.Submission.{Submission}
 use Rattle.port_rows.specs.declared.Withdrawn.{Withdrawn}
 use Rattle.port_rows.specs.declared.Confirmed.{Confirmed}
 use Rattle.port_rows.specs.declared.Failure.{Failure}
 use Rattle.port_rows.specs.declared.Report.{Report}
-use Rattle.port.specs.declared.Moment.{Moment}
+use Rattle.port.specs.declared.Time.{Time}
 use Rattle.port.specs.declared.Sought.{Sought}
 use Rattle.port.specs.declared.Named.{Named}
 use Rattle.port.specs.declared.Seeking.{Seeking}
@@ -29,31 +29,31 @@ use Rattle.port.specs.declared.Choosing.{Choosing}
 use Rattle.port.specs.declared.Choice.{Choice}
 
 -- the record that a scan found, and the core on it
-abbrev pub deed : {P X Q F : Type 0} → (P → X → Q) → (List Request → Q → F) → (F → X → ℕ) → (P → Request → F → X → Done) → List Request → P → X → Done
-deed ask scan slot core l p x = core p (getD l (slot (scan l (ask p x)) x) blank) (scan l (ask p x)) x
+abbrev pub scanned : {P X Q F : Type 0} → (P → X → Q) → (List Request → Q → F) → (F → X → ℕ) → (P → Request → F → X → Done) → List Request → P → X → Done
+scanned ask scan slot core l p x = core p (getD l (slot (scan l (ask p x)) x) blank) (scan l (ask p x)) x
 
 -- one record more that keeps the rules, and is apart from those behind it if f
 abbrev pub keeps : Bool → Bool → Port → Request → ℕ → Bool
 keeps kept f p r i = (kept && requestRule p r i) && f
 
 abbrev pub surveyed : {A X : Type 0} → (A → Bool → Request → ℕ → X → A) → (X → A) → List Request → X → A
-surveyed join start l x = foldTo blank (λ a r i. join a (apartFrom l (againstOf r i)) r i x) (start x) l 32
+surveyed join start l x = foldTo blank (λ a r i. join a (apartFrom l (comparedOf r i)) r i x) (start x) l 32
 
-abbrev pub apartStart : Against → Bool
+abbrev pub apartStart : Compared → Bool
 apartStart x = true
 
-abbrev pub fromOf : Against → ℕ
-fromOf x = x .from
+abbrev pub apartBegin : Compared → ℕ
+apartBegin x = x .from
 
 -- ---- setup asks nothing of the list, and looks from its end on
-abbrev pub setupAsk : ℕ → ℕ → Against
-setupAsk count loss = record { head = noHead; loss = none; from = 32 }
+abbrev pub setupAsk : ℕ → ℕ → Compared
+setupAsk count loss = record { head = noHead; loss = noStamp; from = 32 }
 
 abbrev pub setupSlot : Bool → ℕ → ℕ
-setupSlot f loss = 32
+setupSlot f loss = noSlot
 
-abbrev pub setupCore : ℕ → Request → Bool → ℕ → Done
-setupCore count r f loss = setupOf count loss
+abbrev pub setupFound : ℕ → Request → Bool → ℕ → Done
+setupFound count r f loss = setupCore count loss
 
 -- ---- submit
 abbrev pub roomStart : Seeking → Place
@@ -62,18 +62,18 @@ roomStart x = record { kept = portRule (x .port); room = noRoom }
 abbrev pub roomJoin : Place → Bool → Request → ℕ → Seeking → Place
 roomJoin a f r i x = record { kept = keeps (a .kept) f (x .port) r i; room = roomStep (a .room) r i (x .head) }
 
-abbrev pub submitAsk : Port → Wish → Seeking
+abbrev pub submitAsk : Port → Submission → Seeking
 submitAsk p x = record { port = p; head = x .head }
 
-abbrev pub submitSlot : Place → Wish → ℕ
+abbrev pub submitSlot : Place → Submission → ℕ
 submitSlot f x = f .room .free
 
-abbrev pub submitCore : Port → Request → Place → Wish → Done
-submitCore p r f x = submitOf p (f .kept) (f .room) x
+abbrev pub submitFound : Port → Request → Place → Submission → Done
+submitFound p r f x = submitCore p (f .kept) (f .room) x
 
 -- ---- cancel
 abbrev pub keyStart : Keyed → Named
-keyStart x = record { kept = portRule (x .port); slot = 32 }
+keyStart x = record { kept = portRule (x .port); slot = noSlot }
 
 abbrev pub keyJoin : Named → Bool → Request → ℕ → Keyed → Named
 keyJoin a f r i x = record { kept = keeps (a .kept) f (x .port) r i; slot = keyStep (a .slot) r i (x .key) }
@@ -84,25 +84,25 @@ cancelAsk p x = record { port = p; key = x .key }
 abbrev pub cancelSlot : Named → Withdrawn → ℕ
 cancelSlot f x = f .slot
 
-abbrev pub cancelCore : Port → Request → Named → Withdrawn → Done
-cancelCore p r f x = cancelOf p r (f .kept) (f .slot) x
+abbrev pub cancelFound : Port → Request → Named → Withdrawn → Done
+cancelFound p r f x = cancelCore p r (f .kept) (f .slot) x
 
 -- ---- choose
 abbrev pub pickStart : Choosing → Choice
-pickStart x = record { kept = portRule (x .port); pick = nothing }
+pickStart x = record { kept = portRule (x .port); pick = noPick }
 
 abbrev pub pickJoin : Choice → Bool → Request → ℕ → Choosing → Choice
 pickJoin a f r i x =
     record { kept = keeps (a .kept) f (x .port) r i; pick = chosenStep (a .pick) r i (record { phys = x .port .phys; now = x .now }) }
 
-abbrev pub chooseAsk : Port → Moment → Choosing
+abbrev pub chooseAsk : Port → Time → Choosing
 chooseAsk p x = record { port = p; now = x .now }
 
-abbrev pub chooseSlot : Choice → Moment → ℕ
+abbrev pub chooseSlot : Choice → Time → ℕ
 chooseSlot f x = f .pick .slot
 
-abbrev pub chooseCore : Port → Request → Choice → Moment → Done
-chooseCore p r f x = chooseOf p r (f .kept) (f .pick) (x .now)
+abbrev pub chooseFound : Port → Request → Choice → Time → Done
+chooseFound p r f x = chooseCore p r (f .kept) (f .pick) (x .now)
 
 -- ---- a call about a phy
 abbrev pub namedStart : Sought → Named
@@ -129,20 +129,20 @@ failureSlot f x = f .slot
 abbrev pub reportSlot : Named → Report → ℕ
 reportSlot f x = f .slot
 
-abbrev pub openedCore : Port → Request → Named → Confirmed → Done
-openedCore p r f x = openedOf p r (f .kept) x
+abbrev pub openedFound : Port → Request → Named → Confirmed → Done
+openedFound p r f x = openedCore p r (f .kept) x
 
-abbrev pub openFailedCore : Port → Request → Named → Failure → Done
-openFailedCore p r f x = openFailedOf p r (f .kept) x
+abbrev pub openFailedFound : Port → Request → Named → Failure → Done
+openFailedFound p r f x = openFailedCore p r (f .kept) x
 
-abbrev pub frameStatusCore : Port → Request → Named → Report → Done
-frameStatusCore p r f x = frameStatusOf p r (f .kept) x
+abbrev pub frameStatusFound : Port → Request → Named → Report → Done
+frameStatusFound p r f x = frameStatusCore p r (f .kept) x
 
-abbrev pub closedCore : Port → Request → Named → Confirmed → Done
-closedCore p r f x = closedOf p r (f .kept) x
+abbrev pub closedFound : Port → Request → Named → Confirmed → Done
+closedFound p r f x = closedCore p r (f .kept) x
 
-abbrev pub enableCore : Port → Request → Named → Confirmed → Done
-enableCore p r f x = enableOf p r (f .kept) x
+abbrev pub enableFound : Port → Request → Named → Confirmed → Done
+enableFound p r f x = enableCore p r (f .kept) x
 
-abbrev pub disableCore : Port → Request → Named → Confirmed → Done
-disableCore p r f x = disableOf p r (f .kept) x
+abbrev pub disableFound : Port → Request → Named → Confirmed → Done
+disableFound p r f x = disableCore p r (f .kept) x

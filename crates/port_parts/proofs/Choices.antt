@@ -10,8 +10,8 @@ use lib.Dec.{eqb, ltb}
 use lib.ListN.{length, getD}
 use borrow.Author.Tests.{ne-eqb, ltb-true, ltb-false}
 use Rattle.laws.proofs.Bools.{never}
-use Rattle.port_parts.specs.Parts.{noPhy, blank}
-use Rattle.port_parts.specs.Choice.{wayOf, isReady, nothing, pickOf, chosenOf}
+use Rattle.port_parts.specs.Parts.{absentPhy, blank}
+use Rattle.port_parts.specs.Choice.{wayFor, isReady, noPick, picked, chosenOf}
 use Rattle.port_parts.specs.Qualifies.{Qualifies, Before, Fits, Wins, Right, none, one}
 use Rattle.port_parts.specs.declared.Request.{Request}
 use Rattle.port_parts.specs.declared.Phy.{Phy}
@@ -25,38 +25,38 @@ use Rattle.port_parts.proofs.Earliest as earliest
 module _ (x : Asked) (eight : length (x .phys) ≡ 8) (r : Request) (i : ℕ) where
   -- a request's pick: no phy qualifies with it, or the pick goes by its way
   pub data Pick-says : Pick → Type 0 where
-    no : {p : Pick} → eqb (p .step) 0 ≡ true → ((k step : ℕ) → k < 8 → Qualifies (x .now) r (getD (x .phys) k noPhy) step → ⊥) → Pick-says p
+    no : {p : Pick} → eqb (p .step) 0 ≡ true → ((k step : ℕ) → k < 8 → Qualifies (x .now) r (getD (x .phys) k absentPhy) step → ⊥) → Pick-says p
     yes : {p : Pick} → Is p → p .slot ≡ min i 32 → p .at ≡ r .submitted → Goes (x .phys) (x .now) r (record { step = p .step; phy = p .phy }) → Pick-says p
 
-  pub pick-says : Pick-says (pickOf x r i)
-  unfolding pickOf
+  pub pick-says : Pick-says (picked x r i)
+  unfolding picked
   pick-says = by-ready (isReady r (x .now)) refl
     where
       by-way : (w : Way) → Way-says (x .phys) (x .now) r w → Pick-says (record { step = w .step; phy = w .phy; slot = min i 32; at = r .submitted })
       by-way w (stuck nil) = no refl nil
-      by-way w (goes g) = yes (ne-eqb (w .step) 0 (λ z. let l = step-least (x .now) r (getD (x .phys) (w .phy) noPhy) (w .step) (g .fits) in omega arith)) refl refl g
+      by-way w (goes g) = yes (ne-eqb (w .step) 0 (λ z. let l = step-least (x .now) r (getD (x .phys) (w .phy) absentPhy) (w .step) (g .fits) in omega arith)) refl refl g
 
-      by-ready : (t : Bool) → isReady r (x .now) ≡ t → Pick-says (cond t (record { step = wayOf (x .phys) r .step; phy = wayOf (x .phys) r .phy; slot = min i 32; at = r .submitted }) nothing)
-      by-ready true e = by-way (wayOf (x .phys) r) (way-says (x .phys) (x .now) r eight (ready-says r (x .now) .0 e))
-      by-ready false e = no refl (λ k step h q. never (sym e ∙ ready-says r (x .now) .1 (ready-first (x .now) r (getD (x .phys) k noPhy) step q)))
+      by-ready : (t : Bool) → isReady r (x .now) ≡ t → Pick-says (cond t (record { step = wayFor (x .phys) r .step; phy = wayFor (x .phys) r .phy; slot = min i 32; at = r .submitted }) noPick)
+      by-ready true e = by-way (wayFor (x .phys) r) (way-says (x .phys) (x .now) r eight (ready-says r (x .now) .0 e))
+      by-ready false e = no refl (λ k step h q. never (sym e ∙ ready-says r (x .now) .1 (ready-first (x .now) r (getD (x .phys) k absentPhy) step q)))
 
 module _ (x : Asked) (l : List Request) (eight : length (x .phys) ≡ 8) where
   abbrev at : ℕ → Pick
-  at i = pickOf x (getD l i blank) i
+  at i = picked x (getD l i blank) i
 
   says : (i : ℕ) → Pick-says x eight (getD l i blank) i (at i)
   says i = pick-says x eight (getD l i blank) i
 
   -- a request that qualifies has a pick, of its own time
-  picked : (i k step : ℕ) → k < 8 → Fits (x .phys) (x .now) l i k step → Is (at i) × (at i .at ≡ getD l i blank .submitted)
-  picked i k step h q = by (says i)
+  has-pick : (i k step : ℕ) → k < 8 → Fits (x .phys) (x .now) l i k step → Is (at i) × (at i .at ≡ getD l i blank .submitted)
+  has-pick i k step h q = by (says i)
     where
       by : {p : Pick} → Pick-says x eight (getD l i blank) i p → Is p × (p .at ≡ getD l i blank .submitted)
       by (no e nil) = absurd (nil k step h q)
       by (yes is slot time g) = (is, time)
 
   pub choose-right : Right (x .phys) (x .now) l (chosenOf x l 32)
-  choose-right = by (fold-earliest blank (pickOf x) l 32)
+  choose-right = by (fold-earliest blank (picked x) l 32)
     where
       wins : (s : ℕ) → s < 32 → ((i : ℕ) → i < 32 → Is (at i) → Before (at s .at) s (at i .at) i) → {p : Pick} → p ≡ at s → Is p → Pick-says x eight (getD l s blank) s p → Right (x .phys) (x .now) l p
       wins s h first same is (no e nil) = absurd (never (sym is ∙ e))
@@ -69,7 +69,7 @@ module _ (x : Asked) (l : List Request) (eight : length (x .phys) ≡ 8) where
             fits = subst (λ (n : ℕ). Fits (x .phys) (x .now) l n (p .phy) (p .step)) (sym here) (g .fits);
             rule = λ k step m o q. g .rule k step m o (subst (λ (n : ℕ). Fits (x .phys) (x .now) l n k step) here q);
             lowest = λ k m q. g .lowest k m (subst (λ (n : ℕ). Fits (x .phys) (x .now) l n k (p .step)) here q);
-            first = λ i k step m o q. let other = picked i k step o q in ordered i (subst (λ (n : ℕ). n ≡ s) refl here) (ap (λ (t : Pick). t .at) same) (other .1) (first i m (other .0));
+            first = λ i k step m o q. let other = has-pick i k step o q in ordered i (subst (λ (n : ℕ). n ≡ s) refl here) (ap (λ (t : Pick). t .at) same) (other .1) (first i m (other .0));
           })
         where
           ordered : (i : ℕ) → p .slot ≡ s → p .at ≡ at s .at → at i .at ≡ getD l i blank .submitted → Before (at s .at) s (at i .at) i → Before (p .at) (p .slot) (getD l i blank .submitted) i
@@ -77,7 +77,7 @@ module _ (x : Asked) (l : List Request) (eight : length (x .phys) ≡ 8) where
           ordered i a b c (inr m) = inr (b ∙ m .0 ∙ c, omega (arith, m .1))
 
       by : {p : Pick} → Earliest at 32 p → Right (x .phys) (x .now) l p
-      by (earliest.none nil) = none (λ i k step h m q. let is = picked i k step m q in never (sym (is .0) ∙ nil i h))
+      by (earliest.none nil) = none (λ i k step h m q. let is = has-pick i k step m q in never (sym (is .0) ∙ nil i h))
       by (earliest.one s h is first) = wins s h first refl is (says s)
 
 module _ (ps : List Phy) (now : ℕ) (l : List Request) where
@@ -129,6 +129,6 @@ module _ (ps : List Phy) (now : ℕ) (l : List Request) where
   pub nothing-exactly : (p : Pick) → Right ps now l p → (p .step ≡ 0) ↔ ((i k step : ℕ) → i < 32 → k < 8 → Fits ps now l i k step → ⊥)
   nothing-exactly p (none a) = (λ e. a, λ h. refl)
   nothing-exactly p (one a) = (
-    λ e. absurd (let least = step-least now (getD l (p .slot) blank) (getD ps (p .phy) noPhy) (p .step) (a .fits) in omega arith),
+    λ e. absurd (let least = step-least now (getD l (p .slot) blank) (getD ps (p .phy) absentPhy) (p .step) (a .fits) in omega arith),
     λ h. absurd (h (p .slot) (p .phy) (p .step) (a .slot) (a .phy) (a .fits)),
   )

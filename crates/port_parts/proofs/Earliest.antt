@@ -13,7 +13,7 @@ use borrow.Author.Tests.{ltb-true, ltb-false}
 use Rattle.laws.specs.Folds.{foldTo}
 use Rattle.laws.proofs.Bools.{never, clash}
 use Rattle.laws.proofs.Folds.{at-or-below}
-use Rattle.port_parts.specs.Choice.{nothing, earlierOf}
+use Rattle.port_parts.specs.Choice.{noPick, earlierOf}
 use Rattle.port_parts.specs.Qualifies.{Before}
 use Rattle.port_parts.specs.declared.Pick.{Pick}
 
@@ -24,7 +24,7 @@ Is p = eqb (p .step) 0 ≡ false
 module _ (f : ℕ → Pick) where
   -- p is the earliest of the first n
   pub data Earliest (n : ℕ) : Pick → Type 0 where
-    none : ((i : ℕ) → i < n → eqb (f i .step) 0 ≡ true) → Earliest n nothing
+    none : ((i : ℕ) → i < n → eqb (f i .step) 0 ≡ true) → Earliest n noPick
     one : (s : ℕ) → s < n → Is (f s) → ((i : ℕ) → i < n → Is (f i) → Before (f s .at) s (f i .at) i) → Earliest n (f s)
 
   module _ (n : ℕ) where
@@ -60,8 +60,8 @@ module _ (f : ℕ → Pick) where
     pub step : (p : Pick) → Earliest n p → Earliest (suc n) (earlierOf p (f n))
     step p (none nil) = by (eqb (f n .step) 0) refl
       where
-        by : (t : Bool) → eqb (f n .step) 0 ≡ t → Earliest (suc n) (cond (not t && (eqb 0 0 || ltb (f n .at) 0)) (f n) nothing)
-        by true e = still nothing (none nil) e
+        by : (t : Bool) → eqb (f n .step) 0 ≡ t → Earliest (suc n) (cond (not t && (eqb 0 0 || ltb (f n .at) 0)) (f n) noPick)
+        by true e = still noPick (none nil) e
         by false e = alone e nil
     step p (one s l is first) = by (eqb (f n .step) 0) (eqb (f s .step) 0) (ltb (f n .at) (f s .at)) refl is refl
       where
@@ -71,7 +71,7 @@ module _ (f : ℕ → Pick) where
         by false false true e d g = sooner s first e (ltb-true (f n .at) (f s .at) g)
         by false false false e d g = later s l is first (ltb-false (f n .at) (f s .at) g)
 
-pub fold-earliest : {B : Type 0} (d : B) (f : B → ℕ → Pick) (l : List B) (n : ℕ) → Earliest (λ i. f (getD l i d) i) n (foldTo d (λ p b i. earlierOf p (f b i)) nothing l n)
+pub fold-earliest : {B : Type 0} (d : B) (f : B → ℕ → Pick) (l : List B) (n : ℕ) → Earliest (λ i. f (getD l i d) i) n (foldTo d (λ p b i. earlierOf p (f b i)) noPick l n)
 unfolding foldTo
 fold-earliest d f l zero = none (λ i h. absurd (not-suc-le-zero h))
 fold-earliest d f l (suc n) = step (λ i. f (getD l i d) i) n _ (fold-earliest d f l n)

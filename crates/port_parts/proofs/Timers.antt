@@ -4,7 +4,7 @@ use Prim.Native.Nat.{ℕ}
 use mathlib.Core.Path.{_≡_, refl}
 use mathlib.Core.Bool.{Bool, true, false, not, cond, _&&_}
 use Rattle.laws.proofs.Bools.{never}
-use Rattle.port_parts.specs.Parts.{none, stamped, isSet}
+use Rattle.port_parts.specs.Parts.{noStamp, stamped, isSet}
 use Rattle.port_parts.specs.Timer.{timerBy}
 use Rattle.port_parts.specs.declared.Stamp.{Stamp}
 use Rattle.port_parts.specs.declared.Reason.{Reason}
@@ -12,7 +12,7 @@ use Rattle.port_parts.specs.declared.Reason.{Reason}
 module _ (stops starts : Reason → Bool) (why : Reason) (t : Stamp) (now : ℕ) where
   -- 01 TRAP.3: restarting a running loss timer
   pub runs-on : stops why ≡ false → isSet t ≡ true → timerBy (stops why) (starts why) t now ≡ t
-  runs-on stays set = λ i. cond (stays i) none (by (starts why) (isSet t) set i)
+  runs-on stays set = λ i. cond (stays i) noStamp (by (starts why) (isSet t) set i)
     where
       by : (s u : Bool) → u ≡ true → cond (s && not u) (stamped now) t ≡ t
       by true true e = refl

@@ -13,8 +13,8 @@ use Rattle.laws.proofs.Sets.{first-in, first-low, count-none}
 use Rattle.laws.specs.Sets.{firstOf, countOf}
 use Rattle.laws.specs.Tests.{Says}
 use Rattle.laws.proofs.Tests.{most, equal, both, implies}
-use Rattle.port_parts.specs.Parts.{noPhy}
-use Rattle.port_parts.specs.Choice.{reaches, forSend, forOpen, forClose, some, by, noWay, wayOf, isReady}
+use Rattle.port_parts.specs.Parts.{absentPhy}
+use Rattle.port_parts.specs.Choice.{reaches, forSend, forOpen, forClose, some, by, noWay, wayFor, isReady}
 use Rattle.port_parts.specs.Qualifies.{Ready, Reaches, Qualifies, sends, opens, closes}
 use Rattle.port_parts.specs.declared.Phy.{Phy}
 use Rattle.port_parts.specs.declared.Request.{Request}
@@ -79,7 +79,7 @@ module _ (now : ℕ) (r : Request) (p : Phy) (step : ℕ) where
 -- what w says of request r: where it is no way, nothing qualifies; else it is the first rule's lowest phy
 module _ (ps : List Phy) (now : ℕ) (r : Request) where
   abbrev pub Fit : ℕ → ℕ → Type 0
-  Fit k step = Qualifies now r (getD ps k noPhy) step
+  Fit k step = Qualifies now r (getD ps k absentPhy) step
 
   pub record Goes (w : Way) : Type 0 where
     pub phy : w .phy < 8
@@ -92,30 +92,30 @@ module _ (ps : List Phy) (now : ℕ) (r : Request) where
     goes : {w : Way} → Goes w → Way-says w
 
   module _ (eight : length ps ≡ 8) (ready : Ready now r) where
-    none-of : (f : Phy → Bool) → some f ps ≡ false → (k : ℕ) → k < 8 → f (getD ps k noPhy) ≡ false
-    none-of f e k h = count-none f noPhy ps (omega (arith, ltb-false 0 (countOf f ps) e)) k (omega arith)
+    none-of : (f : Phy → Bool) → some f ps ≡ false → (k : ℕ) → k < 8 → f (getD ps k absentPhy) ≡ false
+    none-of f e k h = count-none f absentPhy ps (omega (arith, ltb-false 0 (countOf f ps) e)) k (omega arith)
 
-    one-of : (f : Phy → Bool) → some f ps ≡ true → (firstOf f ps < 8) × (f (getD ps (firstOf f ps) noPhy) ≡ true)
-    one-of f e = let h = first-in f noPhy ps (ltb-true 0 (countOf f ps) e) in (omega (arith, h .0), h .1)
+    one-of : (f : Phy → Bool) → some f ps ≡ true → (firstOf f ps < 8) × (f (getD ps (firstOf f ps) absentPhy) ≡ true)
+    one-of f e = let h = first-in f absentPhy ps (ltb-true 0 (countOf f ps) e) in (omega (arith, h .0), h .1)
 
     no-send : some (forSend (r .head)) ps ≡ false → (k step : ℕ) → k < 8 → Fit k step → step ≡ 1 → ⊥
-    no-send e k step h q d = clash (forSend (r .head) (getD ps k noPhy)) (send-is now r (getD ps k noPhy) step q d) (none-of (forSend (r .head)) e k h)
+    no-send e k step h q d = clash (forSend (r .head) (getD ps k absentPhy)) (send-is now r (getD ps k absentPhy) step q d) (none-of (forSend (r .head)) e k h)
 
     no-open : some forOpen ps ≡ false → (k step : ℕ) → k < 8 → Fit k step → step ≡ 2 → ⊥
-    no-open e k step h q d = clash (forOpen (getD ps k noPhy)) (open-is now r (getD ps k noPhy) step q d) (none-of forOpen e k h)
+    no-open e k step h q d = clash (forOpen (getD ps k absentPhy)) (open-is now r (getD ps k absentPhy) step q d) (none-of forOpen e k h)
 
     no-close : eqb (r .closed) 0 && some (forClose (r .head)) ps ≡ false → (k step : ℕ) → k < 8 → Fit k step → step ≡ 3 → ⊥
     no-close e k step h q d = by-some (some (forClose (r .head)) ps) refl
       where
-        at-k : (eqb (r .closed) 0 ≡ true) × (forClose (r .head) (getD ps k noPhy) ≡ true)
-        at-k = close-is now r (getD ps k noPhy) step q d
+        at-k : (eqb (r .closed) 0 ≡ true) × (forClose (r .head) (getD ps k absentPhy) ≡ true)
+        at-k = close-is now r (getD ps k absentPhy) step q d
 
         by-some : (t : Bool) → some (forClose (r .head)) ps ≡ t → ⊥
         by-some true s = clash (eqb (r .closed) 0 && some (forClose (r .head)) ps) (and-true (at-k .0) s) e
-        by-some false s = clash (forClose (r .head) (getD ps k noPhy)) (at-k .1) (none-of (forClose (r .head)) s k h)
+        by-some false s = clash (forClose (r .head) (getD ps k absentPhy)) (at-k .1) (none-of (forClose (r .head)) s k h)
 
-    pub way-says : Way-says (wayOf ps r)
-    unfolding wayOf
+    pub way-says : Way-says (wayFor ps r)
+    unfolding wayFor
     way-says = by-tests (some (forSend (r .head)) ps) (some forOpen ps) (eqb (r .closed) 0 && some (forClose (r .head)) ps) refl refl refl
       where
         by-tests : (a b c : Bool) → some (forSend (r .head)) ps ≡ a → some forOpen ps ≡ b → eqb (r .closed) 0 && some (forClose (r .head)) ps ≡ c
@@ -124,25 +124,25 @@ module _ (ps : List Phy) (now : ℕ) (r : Request) where
             let h = one-of (forSend (r .head)) e in
             goes (record {
               phy = h .0;
-              fits = let says = send-says (getD ps (firstOf (forSend (r .head)) ps) noPhy) r (h .1) in sends refl ready (says .0) (says .1);
-              rule = λ k step l m q. let z = step-least now r (getD ps k noPhy) step q in omega arith;
-              lowest = λ k l q. clash (forSend (r .head) (getD ps k noPhy)) (send-is now r (getD ps k noPhy) 1 q refl) (first-low (forSend (r .head)) noPhy ps k l);
+              fits = let says = send-says (getD ps (firstOf (forSend (r .head)) ps) absentPhy) r (h .1) in sends refl ready (says .0) (says .1);
+              rule = λ k step l m q. let z = step-least now r (getD ps k absentPhy) step q in omega arith;
+              lowest = λ k l q. clash (forSend (r .head) (getD ps k absentPhy)) (send-is now r (getD ps k absentPhy) 1 q refl) (first-low (forSend (r .head)) absentPhy ps k l);
             })
         by-tests false true c e f g =
             let h = one-of forOpen f in
             goes (record {
               phy = h .0;
-              fits = opens refl ready (eqb-true (getD ps (firstOf forOpen ps) noPhy .stage) 1 (h .1));
-              rule = λ k step l m q. let z = step-least now r (getD ps k noPhy) step q in no-send e k step l q (omega arith);
-              lowest = λ k l q. clash (forOpen (getD ps k noPhy)) (open-is now r (getD ps k noPhy) 2 q refl) (first-low forOpen noPhy ps k l);
+              fits = opens refl ready (eqb-true (getD ps (firstOf forOpen ps) absentPhy .stage) 1 (h .1));
+              rule = λ k step l m q. let z = step-least now r (getD ps k absentPhy) step q in no-send e k step l q (omega arith);
+              lowest = λ k l q. clash (forOpen (getD ps k absentPhy)) (open-is now r (getD ps k absentPhy) 2 q refl) (first-low forOpen absentPhy ps k l);
             })
         by-tests false false true e f g =
             let h = one-of (forClose (r .head)) (and-right (eqb (r .closed) 0) _ g) in
             goes (record {
               phy = h .0;
-              fits = let says = close-says (getD ps (firstOf (forClose (r .head)) ps) noPhy) r (h .1) in closes refl ready (says .0) (says .1) (eqb-true (r .closed) 0 (and-left (eqb (r .closed) 0) _ g));
-              rule = λ k step l m q. taken-by now r (getD ps k noPhy) step q (no-send e k step l q, (no-open f k step l q, λ d. omega arith));
-              lowest = λ k l q. clash (forClose (r .head) (getD ps k noPhy)) (close-is now r (getD ps k noPhy) 3 q refl .1) (first-low (forClose (r .head)) noPhy ps k l);
+              fits = let says = close-says (getD ps (firstOf (forClose (r .head)) ps) absentPhy) r (h .1) in closes refl ready (says .0) (says .1) (eqb-true (r .closed) 0 (and-left (eqb (r .closed) 0) _ g));
+              rule = λ k step l m q. taken-by now r (getD ps k absentPhy) step q (no-send e k step l q, (no-open f k step l q, λ d. omega arith));
+              lowest = λ k l q. clash (forClose (r .head) (getD ps k absentPhy)) (close-is now r (getD ps k absentPhy) 3 q refl .1) (first-low (forClose (r .head)) absentPhy ps k l);
             })
         by-tests false false false e f g =
-            stuck (λ k step l q. taken-by now r (getD ps k noPhy) step q (no-send e k step l q, (no-open f k step l q, no-close g k step l q)))
+            stuck (λ k step l q. taken-by now r (getD ps k absentPhy) step q (no-send e k step l q, (no-open f k step l q, no-close g k step l q)))

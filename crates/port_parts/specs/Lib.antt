@@ -1,4 +1,7 @@
 -- Document 01, 'Port': its parts.
+pub mod PhyStage
+pub mod RequestStage
+pub mod Step
 pub mod Parts
 pub mod Choice
 pub mod Qualifies

@@ -1,29 +1,50 @@
 -- Document 01, 'Port': phys, requests and time stamps. Assumes nothing.
-use Prim.Native.Nat.{ℕ}
+use Prim.Native.Nat.{ℕ, min}
 use mathlib.Core.Bool.{Bool, _&&_, _||_}
 use lib.Dec.{eqb, leb, ltb}
 use Rattle.open_frame.specs.declared.Head.{Head}
+use Rattle.port_parts.specs.PhyStage as phy-stage
+use Rattle.port_parts.specs.RequestStage as request-stage
 use Rattle.port_parts.specs.declared.Phy.{Phy}
 use Rattle.port_parts.specs.declared.Stamp.{Stamp}
 use Rattle.port_parts.specs.declared.Request.{Request}
 
+-- a mark of a lent record, which is a number
+abbrev pub no : ℕ
+no = 0
+
+abbrev pub yes : ℕ
+yes = 1
+
+-- what names no slot of the list, which has 32, and no phy of the port, which has 8 at most
+abbrev pub noSlot : ℕ
+noSlot = 32
+
+abbrev pub noPhy : ℕ
+noPhy = 8
+
+-- 01 OPEN.2
+-- the number of a protocol
+abbrev pub ssp : ℕ
+ssp = 1
+
 -- no time yet
-abbrev pub none : Stamp
-none = record { set = 0; at = 0 }
+abbrev pub noStamp : Stamp
+noStamp = record { set = no; at = 0 }
 
 abbrev pub stamped : ℕ → Stamp
-stamped now = record { set = 1; at = now }
+stamped now = record { set = yes; at = now }
 
 abbrev pub isSet : Stamp → Bool
-isSet t = eqb (t .set) 1
+isSet t = eqb (t .set) yes
 
 -- a disabled phy, which names no request
-abbrev pub off : Phy
-off = record { stage = 0; slot = 32; protocol = 0; destination = 0 }
+abbrev pub disabledPhy : Phy
+disabledPhy = record { stage = phy-stage.disabled; slot = noSlot; protocol = 0; destination = 0 }
 
 -- what stands where a port has no phy
-abbrev pub noPhy : Phy
-noPhy = record { stage = 0; slot = 0; protocol = 0; destination = 0 }
+abbrev pub absentPhy : Phy
+absentPhy = record { stage = phy-stage.disabled; slot = 0; protocol = 0; destination = 0 }
 
 -- 01 PORT.1: 1 to 8 phys from 0, each disabled (at setup), unconnected, opening, connected or closing (these two idle or with a frame out); loss time 1 to 65,535 ms (65,535: never).
 abbrev pub inRange : ℕ → ℕ → Bool
@@ -31,36 +52,36 @@ inRange count loss = leb 1 count && (leb count 8 && (leb 1 loss && leb loss 6553
 
 -- 01 PORT.1
 abbrev pub isDisabled : Phy → Bool
-isDisabled p = eqb (p .stage) 0
+isDisabled p = eqb (p .stage) phy-stage.disabled
 
 abbrev pub isUnconnected : Phy → Bool
-isUnconnected p = eqb (p .stage) 1
+isUnconnected p = eqb (p .stage) phy-stage.unconnected
 
 abbrev pub isOpening : Phy → Bool
-isOpening p = eqb (p .stage) 2
+isOpening p = eqb (p .stage) phy-stage.opening
 
 -- connected and idle
 abbrev pub isIdle : Phy → Bool
-isIdle p = eqb (p .stage) 3
+isIdle p = eqb (p .stage) phy-stage.idle
 
 -- connected with a frame out
 abbrev pub isSending : Phy → Bool
-isSending p = eqb (p .stage) 4
+isSending p = eqb (p .stage) phy-stage.sending
 
 -- closing and idle
 abbrev pub isClosingIdle : Phy → Bool
-isClosingIdle p = eqb (p .stage) 5
+isClosingIdle p = eqb (p .stage) phy-stage.closing
 
 -- closing with a frame out
 abbrev pub isClosingSending : Phy → Bool
-isClosingSending p = eqb (p .stage) 6
+isClosingSending p = eqb (p .stage) phy-stage.closingSending
 
 abbrev pub hasFrameOut : Phy → Bool
 hasFrameOut p = isSending p || isClosingSending p
 
 -- it names a request
 abbrev pub names : Phy → Bool
-names p = ltb (p .slot) 32
+names p = ltb (p .slot) noSlot
 
 abbrev pub noHead : Head
 noHead = record { initiator = 0; protocol = 0; features = 0; rate = 0; tag = 0; destination = 0; source = 0 }
@@ -69,30 +90,34 @@ noHead = record { initiator = 0; protocol = 0; features = 0; rate = 0; tag = 0; 
 abbrev pub blank : Request
 blank =
     record {
-      stage = 0;
+      stage = request-stage.free;
       phy = 0;
-      cancelled = 0;
-      closed = 0;
+      cancelled = no;
+      closed = no;
       pbc = record { 0 = 0 };
       awt = record { 0 = 0 };
       head = noHead;
       submitted = 0;
-      retry = none;
-      first = none;
-      loss = none;
+      retry = noStamp;
+      first = noStamp;
+      loss = noStamp;
     }
 
 abbrev pub isFree : Request → Bool
-isFree r = eqb (r .stage) 0
+isFree r = eqb (r .stage) request-stage.free
 
 abbrev pub isWaiting : Request → Bool
-isWaiting r = eqb (r .stage) 1
+isWaiting r = eqb (r .stage) request-stage.waiting
 
 abbrev pub isInProgress : Request → Bool
-isInProgress r = eqb (r .stage) 2
+isInProgress r = eqb (r .stage) request-stage.inProgress
 
 abbrev pub isSsp : Head → Bool
-isSsp h = eqb (h .protocol) 1
+isSsp h = eqb (h .protocol) ssp
+
+-- a place in the list as a slot
+abbrev pub slotAt : ℕ → ℕ
+slotAt i = min i noSlot
 
 -- of one destination, protocol and tag
 abbrev pub sameKey : Head → Head → Bool

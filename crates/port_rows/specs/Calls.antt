@@ -12,7 +12,10 @@ use Rattle.open_frame.specs.Open.{headListed}
 use Rattle.open_frame.specs.Wait.{awtOf}
 use Rattle.open_frame.specs.declared.Awt.{Awt}
 use Rattle.open_frame.specs.declared.Pbc.{Pbc}
-use Rattle.port_parts.specs.Parts.{none, stamped, isSet, off, noPhy, isDisabled, isOpening, isIdle, isSending, isClosingIdle, isClosingSending, blank, isWaiting, isSsp, inRange, names, hasFrameOut}
+use Rattle.port_parts.specs.Parts.{no, yes, noSlot, noPhy, noStamp, stamped, isSet, disabledPhy, absentPhy, isDisabled, isOpening, isIdle, isSending, isClosingIdle, isClosingSending, blank, isWaiting, isSsp, inRange, names, hasFrameOut}
+use Rattle.port_parts.specs.PhyStage as phy-stage
+use Rattle.port_parts.specs.RequestStage as request-stage
+use Rattle.port_parts.specs.Step as step
 use Rattle.port_parts.specs.Reasons.{reasonOf, isListed, isRetried, isBlocked, isStarting, isStopping}
 use Rattle.port_parts.specs.Timer.{timerBy, isLost}
 use Rattle.port_parts.specs.declared.Phy.{Phy}
@@ -21,11 +24,12 @@ use Rattle.port_parts.specs.declared.Port.{Port}
 use Rattle.port_parts.specs.declared.Reason.{Reason}
 use Rattle.port_parts.specs.declared.Request.{Request}
 use Rattle.port_parts.specs.declared.Stamp.{Stamp}
-use Rattle.port_rows.specs.Answers.{later, withPhy, fresh, noPort, unconnectedPhy, openingPhy, joinedPhy, stagedPhy, unchanged, lossBy, told, bare, refusedBy}
+use Rattle.port_rows.specs.Answers.{later, withPhy, fresh, noPort, unconnectedPhy, openingPhy, joinedPhy, stagedPhy, noLoss, lossBy, unnamed, refusedBy, said, stored, ended}
+use Rattle.port_rows.specs.declared.Answer.{Answer}
 use Rattle.port_rows.specs.declared.Word.{Word}
 use Rattle.port_rows.specs.declared.Word.the-variants.{Taken, Submitted, Nothing, Send, Open, Close, StopArb, Retried, Waiting, CancelAcknowledged, Ended, NexusLoss, ConnectionLost, Status}
 use Rattle.port_rows.specs.declared.Room.{Room}
-use Rattle.port_rows.specs.declared.Wish.{Wish}
+use Rattle.port_rows.specs.declared.Submission.{Submission}
 use Rattle.port_rows.specs.declared.Withdrawn.{Withdrawn}
 use Rattle.port_rows.specs.declared.Confirmed.{Confirmed}
 use Rattle.port_rows.specs.declared.Failure.{Failure}
@@ -34,9 +38,9 @@ use Rattle.port_rows.specs.declared.Done.{Done}
 
 -- a record with these in place of its own
 abbrev pub placed : Request → ℕ → ℕ → Request
-placed r stage phy =
+placed r n phy =
     record {
-      stage = stage;
+      stage = n;
       phy = phy;
       cancelled = r .cancelled;
       closed = r .closed;
@@ -98,11 +102,11 @@ timed r loss =
     }
 
 abbrev pub isCancelled : Request → Bool
-isCancelled r = eqb (r .cancelled) 1
+isCancelled r = eqb (r .cancelled) yes
 
 -- the phy with number k
 abbrev pub phyAt : Port → ℕ → Phy
-phyAt p k = getD (p .phys) k noPhy
+phyAt p k = getD (p .phys) k absentPhy
 
 -- what a checked call leaves
 abbrev pub given : Checked → Port → Done → Done
@@ -111,43 +115,43 @@ given c p d = byCheck (refusedBy p) d c
 -- ---- setup
 
 -- 01 REFUSAL.3
-unfoldable pub setupOf : ℕ → ℕ → Done
-setupOf count loss =
+unfoldable pub setupCore : ℕ → ℕ → Done
+setupCore count loss =
     refuse (refusedBy noPort) ((Refusal.Rules when not (inRange count loss)) ∷ [])
-    (bare (fresh count loss) Taken true)
+    (unnamed (fresh count loss) Taken true)
 
 -- ---- submit
 
 -- 01 REFUSAL.2 01 REFUSAL.3 01 REFUSAL.5 01 REFUSAL.9 01 REFUSAL.10
-abbrev pub submitCauses : Port → Bool → Room → Wish → List Cause
+abbrev pub submitCauses : Port → Bool → Room → Submission → List Cause
 submitCauses p kept v x =
     (Refusal.Unlisted when not (headListed (x .head)))
     ∷ (Refusal.Rules when not kept)
     ∷ (Refusal.Past when ltb (x .now) (p .last))
     ∷ (Refusal.Present when v .same)
-    ∷ (Refusal.Full when leb 32 (v .free))
+    ∷ (Refusal.Full when leb noSlot (v .free))
     ∷ []
 
 -- a request as submit leaves it: waiting, with nothing behind it but its destination's loss timer
-abbrev pub submitted : Room → Wish → Request
+abbrev pub submitted : Room → Submission → Request
 submitted v x =
     record {
-      stage = 1;
+      stage = request-stage.waiting;
       phy = 0;
-      cancelled = 0;
-      closed = 0;
+      cancelled = no;
+      closed = no;
       pbc = record { 0 = 0 };
       awt = record { 0 = 0 };
       head = x .head;
       submitted = x .now;
-      retry = none;
-      first = none;
+      retry = noStamp;
+      first = noStamp;
       loss = v .loss;
     }
 
-unfoldable pub submitOf : Port → Bool → Room → Wish → Done
-submitOf p kept v x =
-    refuse (refusedBy p) (submitCauses p kept v x) (told (later p (x .now)) Submitted (v .free) 8 (submitted v x) (submitted v x) unchanged)
+unfoldable pub submitCore : Port → Bool → Room → Submission → Done
+submitCore p kept v x =
+    refuse (refusedBy p) (submitCauses p kept v x) (stored (later p (x .now)) (said Submitted (v .free) noPhy (submitted v x)) (submitted v x) noLoss)
 
 -- ---- cancel
 
@@ -157,26 +161,42 @@ cancelCauses p r kept s x =
     (Refusal.Unlisted when not (ltb (x .key .protocol) 3))
     ∷ (Refusal.Rules when not kept)
     ∷ (Refusal.Past when ltb (x .now) (p .last))
-    ∷ (Refusal.Unfit when (leb 32 s || isCancelled r))
+    ∷ (Refusal.Unfit when (leb noSlot s || isCancelled r))
     ∷ []
 
 -- a connected phy whose request is cancelled closes, with its frame out
 abbrev pub closingPhy : Phy → Phy
-closingPhy f = stagedPhy (cond (isSending f) 6 (f .stage)) (f .slot) f
+closingPhy f = stagedPhy (cond (isSending f) phy-stage.closingSending (f .stage)) (f .slot) f
 
 -- 01 PORT.23
--- a request in progress is cancelled, and its phy stops or closes
+-- in progress: Stop Arb while opening, Close while connected
 abbrev pub stopped : Port → Request → ℕ → ℕ → Done
-stopped p r s now = told (withPhy p (r .phy) (closingPhy (phyAt p (r .phy))) now) (cond (isOpening (phyAt p (r .phy))) StopArb Close) s (r .phy) r (marked r 1 (r .closed)) unchanged
+stopped p r s now =
+    stored (withPhy p (r .phy) (closingPhy (phyAt p (r .phy))) now)
+    (said (cond (isOpening (phyAt p (r .phy))) StopArb Close) s (r .phy) r)
+    (marked r yes (r .closed)) noLoss
 
 -- 01 PORT.23: Cancel of a waiting request ends it (Cancel Acknowledged); in progress: Stop Arb while opening, Close while connected; Opened after that gives Close; any end, retry, closing or disabling then is Cancel Acknowledged.
 unfoldable pub cancelled : Port → Request → ℕ → ℕ → Done
-cancelled p r s now =
-    cond (isWaiting r) (told (later p now) CancelAcknowledged s 8 r blank unchanged)
-    (stopped p r s now)
+cancelled p r s now = cond (isWaiting r) (ended (later p now) (said CancelAcknowledged s noPhy r)) (stopped p r s now)
 
-unfoldable pub cancelOf : Port → Request → Bool → ℕ → Withdrawn → Done
-cancelOf p r kept s x = refuse (refusedBy p) (cancelCauses p r kept s x) (cancelled p r s (x .now))
+unfoldable pub cancelCore : Port → Request → Bool → ℕ → Withdrawn → Done
+cancelCore p r kept s x = refuse (refusedBy p) (cancelCauses p r kept s x) (cancelled p r s (x .now))
+
+-- ---- a request that was cancelled
+
+-- 01 PORT.23
+-- Opened of a request that was cancelled gives Close: its phy closes, and the frame doesn't go
+abbrev pub openedWord : Request → Word
+openedWord r = cond (isCancelled r) Close Send
+
+abbrev pub openedStage : Request → ℕ
+openedStage r = cond (isCancelled r) phy-stage.closing phy-stage.sending
+
+-- 01 PORT.23
+-- any end, retry, closing or disabling of a request that was cancelled is Cancel Acknowledged
+abbrev pub unlessCancelled : Request → Word → Word
+unlessCancelled r w = cond (isCancelled r) CancelAcknowledged w
 
 -- ---- choose
 
@@ -184,8 +204,13 @@ cancelOf p r kept s x = refuse (refusedBy p) (cancelCauses p r kept s x) (cancel
 abbrev pub chooseCauses : Port → Bool → ℕ → List Cause
 chooseCauses p kept now = (Refusal.Rules when not kept) ∷ (Refusal.Past when ltb now (p .last)) ∷ []
 
+-- 01 PORT.13
+-- (1) the frame goes on a phy that is connected already
 abbrev pub sent : Port → Request → Pick → ℕ → Done
-sent p r b now = told (withPhy p (b .phy) (stagedPhy 4 (b .slot) (phyAt p (b .phy))) now) Send (b .slot) (b .phy) r (placed r 2 (b .phy)) unchanged
+sent p r b now =
+    stored (withPhy p (b .phy) (stagedPhy phy-stage.sending (b .slot) (phyAt p (b .phy))) now)
+    (said Send (b .slot) (b .phy) r)
+    (placed r request-stage.inProgress (b .phy)) noLoss
 
 -- 01 PORT.16: Open carries AWT since the request's first open after its last reset, and its PBC.
 abbrev pub firstOpen : Request → ℕ → Stamp
@@ -196,28 +221,38 @@ abbrev pub waitSince : Request → ℕ → Awt
 waitSince r now = awtOf (now - firstOpen r now .at)
 
 -- 01 PORT.16
+-- an Open, with the frame that the record holds
+abbrev pub asking : ℕ → ℕ → Request → Answer
+asking s k r = record { word = Open; slot = s; phy = k; frame = record { head = r .head; pbc = r .pbc; awt = r .awt } }
+
+abbrev pub asked : Request → ℕ → ℕ → Request
+asked r k now = waited (placed r request-stage.inProgress k) (r .pbc) (waitSince r now) (r .retry) (firstOpen r now)
+
+-- 01 PORT.13 01 PORT.16
+-- (2) a phy that is unconnected opens
 abbrev pub opening : Port → Request → Pick → ℕ → Done
 opening p r b now =
-    record {
-      port = withPhy p (b .phy) (openingPhy (b .slot)) now;
-      answer = record { word = Open; slot = b .slot; phy = b .phy; frame = record { head = r .head; pbc = r .pbc; awt = waitSince r now } };
-      entry = waited (placed r 2 (b .phy)) (r .pbc) (waitSince r now) (r .retry) (firstOpen r now);
-      loss = unchanged;
-      cleared = false;
-    }
+    stored (withPhy p (b .phy) (openingPhy (b .slot)) now) (asking (b .slot) (b .phy) (asked r (b .phy) now)) (asked r (b .phy) now) noLoss
 
+-- 01 PORT.13
+-- (3) a phy that is connected elsewhere closes, once per request; it names none, and the request goes on waiting
 abbrev pub closing : Port → Request → Pick → ℕ → Done
-closing p r b now = told (withPhy p (b .phy) (stagedPhy 5 32 (phyAt p (b .phy))) now) Close (b .slot) (b .phy) r (marked r (r .cancelled) 1) unchanged
+closing p r b now =
+    stored (withPhy p (b .phy) (stagedPhy phy-stage.closing noSlot (phyAt p (b .phy))) now)
+    (said Close (b .slot) (b .phy) r)
+    (marked r (r .cancelled) yes) noLoss
 
 abbrev pub idle : Port → ℕ → Done
-idle p now = bare (later p now) Nothing false
+idle p now = unnamed (later p now) Nothing false
 
+-- 01 PORT.13 01 PORT.15
 unfoldable pub chosen : Port → Request → Pick → ℕ → Done
 chosen p r b now =
-    cond (eqb (b .step) 1) (sent p r b now) (cond (eqb (b .step) 2) (opening p r b now) (cond (eqb (b .step) 3) (closing p r b now) (idle p now)))
+    cond (eqb (b .step) step.sends) (sent p r b now)
+    (cond (eqb (b .step) step.opens) (opening p r b now) (cond (eqb (b .step) step.closes) (closing p r b now) (idle p now)))
 
-unfoldable pub chooseOf : Port → Request → Bool → Pick → ℕ → Done
-chooseOf p r kept b now = refuse (refusedBy p) (chooseCauses p kept now) (chosen p r b now)
+unfoldable pub chooseCore : Port → Request → Bool → Pick → ℕ → Done
+chooseCore p r kept b now = refuse (refusedBy p) (chooseCauses p kept now) (chosen p r b now)
 
 -- ---- a phy's calls: f is the phy, r the request that it names
 
@@ -230,12 +265,13 @@ phyCauses p kept k now unfit =
 -- 01 PORT.24
 abbrev pub connected : Port → Phy → Request → Confirmed → Done
 connected p f r x =
-    told (withPhy p (x .phy) (joinedPhy (cond (isCancelled r) 5 4) (f .slot) (r .head)) (x .now)) (cond (isCancelled r) Close Send) (f .slot) (x .phy) r
-    (timed r (cond (isSsp (r .head)) none (r .loss))) (lossBy r none)
+    stored (withPhy p (x .phy) (joinedPhy (openedStage r) (f .slot) (r .head)) (x .now))
+    (said (openedWord r) (f .slot) (x .phy) r)
+    (timed r (cond (isSsp (r .head)) noStamp (r .loss))) (lossBy r noStamp)
 
 -- 01 REFUSAL.14: Opened or Open Failed, phy not opening; frame status, no frame out; Closed, neither connected nor closing; enabling an enabled or disabling a disabled phy; Cancel of a request absent or already cancelled.
-unfoldable pub openedOf : Port → Request → Bool → Confirmed → Done
-openedOf p r kept x = refuse (refusedBy p) (phyCauses p kept (x .phy) (x .now) (not (isOpening (phyAt p (x .phy))))) (connected p (phyAt p (x .phy)) r x)
+unfoldable pub openedCore : Port → Request → Bool → Confirmed → Done
+openedCore p r kept x = refuse (refusedBy p) (phyCauses p kept (x .phy) (x .now) (not (isOpening (phyAt p (x .phy))))) (connected p (phyAt p (x .phy)) r x)
 
 -- 01 PORT.19: Pathway Blocked keeps the wait running and adds 1 to its PBC, up to 255; the other retries reset both.
 abbrev pub oneMore : Pbc → Pbc
@@ -245,8 +281,8 @@ oneMore n = record { 0 = min (n .0 + 1) 255 }
 abbrev pub again : Request → Reason → ℕ → Stamp → Request
 again r why now t =
     timed
-    (waited (placed r 1 0) (cond (isBlocked why) (oneMore (r .pbc)) (record { 0 = 0 })) (cond (isBlocked why) (r .awt) (record { 0 = 0 })) (stamped now)
-    (cond (isBlocked why) (r .first) none)) t
+    (waited (placed r request-stage.waiting 0) (cond (isBlocked why) (oneMore (r .pbc)) (record { 0 = 0 })) (cond (isBlocked why) (r .awt) (record { 0 = 0 })) (stamped now)
+    (cond (isBlocked why) (r .first) noStamp)) t
 
 -- 01 PORT.24
 -- the destination's timer after the confirmation
@@ -260,9 +296,7 @@ isNexusLost p r why now = isSsp (r .head) && isLost (timerAfter r why now) (p .l
 -- 01 PORT.18 01 PORT.25
 -- Cancel Acknowledged comes before a reason that ends, and that before I_T Nexus Loss
 abbrev pub failedWord : Port → Request → Reason → ℕ → Word
-failedWord p r why now =
-    cond (isCancelled r) CancelAcknowledged
-    (cond (not (isRetried why)) (Ended why) (cond (isNexusLost p r why now) NexusLoss Retried))
+failedWord p r why now = unlessCancelled r (cond (not (isRetried why)) (Ended why) (cond (isNexusLost p r why now) NexusLoss Retried))
 
 abbrev pub isAgain : Port → Request → Reason → ℕ → Bool
 isAgain p r why now = not (isCancelled r) && (isRetried why && not (isNexusLost p r why now))
@@ -270,28 +304,28 @@ isAgain p r why now = not (isCancelled r) && (isRetried why && not (isNexusLost 
 -- 01 PORT.18
 abbrev pub failed : Port → Phy → Request → Reason → ℕ → ℕ → Done
 failed p f r why k now =
-    told (withPhy p k unconnectedPhy now) (failedWord p r why now) (f .slot) k r (cond (isAgain p r why now) (again r why now (timerAfter r why now)) blank)
-    (lossBy r (timerAfter r why now))
+    stored (withPhy p k unconnectedPhy now) (said (failedWord p r why now) (f .slot) k r)
+    (cond (isAgain p r why now) (again r why now (timerAfter r why now)) blank) (lossBy r (timerAfter r why now))
 
 -- 01 REFUSAL.2
 abbrev pub failedCauses : Port → Bool → Failure → Bool → List Cause
 failedCauses p kept x unfit = (Refusal.Unlisted when not (isListed (reasonOf (x .why)))) ∷ phyCauses p kept (x .phy) (x .now) unfit
 
 -- 01 REFUSAL.14
-unfoldable pub openFailedOf : Port → Request → Bool → Failure → Done
-openFailedOf p r kept x =
+unfoldable pub openFailedCore : Port → Request → Bool → Failure → Done
+openFailedCore p r kept x =
     refuse (refusedBy p) (failedCauses p kept x (not (isOpening (phyAt p (x .phy)))))
     (failed p (phyAt p (x .phy)) r (reasonOf (x .why)) (x .phy) (x .now))
 
 -- 01 PORT.20: Frame status (a byte, handed on): request ends, phy idle; a closing one stays closing.
 abbrev pub framed : Port → Phy → Request → Report → Done
 framed p f r x =
-    told (withPhy p (x .phy) (stagedPhy (cond (isSending f) 3 5) 32 f) (x .now)) (cond (isCancelled r) CancelAcknowledged (Status (x .status))) (f .slot) (x .phy) r
-    blank unchanged
+    ended (withPhy p (x .phy) (stagedPhy (cond (isSending f) phy-stage.idle phy-stage.closing) noSlot f) (x .now))
+    (said (unlessCancelled r (Status (x .status))) (f .slot) (x .phy) r)
 
 -- 01 REFUSAL.14
-unfoldable pub frameStatusOf : Port → Request → Bool → Report → Done
-frameStatusOf p r kept x =
+unfoldable pub frameStatusCore : Port → Request → Bool → Report → Done
+frameStatusCore p r kept x =
     refuse (refusedBy p) (phyCauses p kept (x .phy) (x .now) (not (hasFrameOut (phyAt p (x .phy))))) (framed p (phyAt p (x .phy)) r x)
 
 abbrev pub isJoined : Phy → Bool
@@ -300,26 +334,26 @@ isJoined f = (isIdle f || isSending f) || (isClosingIdle f || isClosingSending f
 -- 01 PORT.21: Closed: phy free, its request ends as connection lost.
 abbrev pub closedDone : Port → Phy → Request → Confirmed → Done
 closedDone p f r x =
-    told (withPhy p (x .phy) unconnectedPhy (x .now)) (cond (names f) (cond (isCancelled r) CancelAcknowledged ConnectionLost) Taken) (f .slot) (x .phy) r blank unchanged
+    ended (withPhy p (x .phy) unconnectedPhy (x .now)) (said (cond (names f) (unlessCancelled r ConnectionLost) Taken) (f .slot) (x .phy) r)
 
 -- 01 REFUSAL.14
-unfoldable pub closedOf : Port → Request → Bool → Confirmed → Done
-closedOf p r kept x =
+unfoldable pub closedCore : Port → Request → Bool → Confirmed → Done
+closedCore p r kept x =
     refuse (refusedBy p) (phyCauses p kept (x .phy) (x .now) (not (isJoined (phyAt p (x .phy))))) (closedDone p (phyAt p (x .phy)) r x)
 
 -- 01 REFUSAL.14
-unfoldable pub enableOf : Port → Request → Bool → Confirmed → Done
-enableOf p r kept x =
+unfoldable pub enableCore : Port → Request → Bool → Confirmed → Done
+enableCore p r kept x =
     refuse (refusedBy p) (phyCauses p kept (x .phy) (x .now) (not (isDisabled (phyAt p (x .phy)))))
-    (told (withPhy p (x .phy) unconnectedPhy (x .now)) Taken 32 (x .phy) r blank unchanged)
+    (ended (withPhy p (x .phy) unconnectedPhy (x .now)) (said Taken noSlot (x .phy) r))
 
 -- 01 PORT.22: A disabled phy's request waits again, wait and PBC kept.
 abbrev pub disabledDone : Port → Phy → Request → Confirmed → Done
 disabledDone p f r x =
-    told (withPhy p (x .phy) off (x .now)) (cond (names f) (cond (isCancelled r) CancelAcknowledged Waiting) Taken) (f .slot) (x .phy) r
-    (cond (isCancelled r) blank (placed r 1 0)) unchanged
+    stored (withPhy p (x .phy) disabledPhy (x .now)) (said (cond (names f) (unlessCancelled r Waiting) Taken) (f .slot) (x .phy) r)
+    (cond (isCancelled r) blank (placed r request-stage.waiting 0)) noLoss
 
 -- 01 REFUSAL.14
-unfoldable pub disableOf : Port → Request → Bool → Confirmed → Done
-disableOf p r kept x =
+unfoldable pub disableCore : Port → Request → Bool → Confirmed → Done
+disableCore p r kept x =
     refuse (refusedBy p) (phyCauses p kept (x .phy) (x .now) (isDisabled (phyAt p (x .phy)))) (disabledDone p (phyAt p (x .phy)) r x)

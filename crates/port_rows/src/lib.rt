@@ -76,7 +76,7 @@ pub struct Room {
 
 // What a submit gives.
 #[repr(C)]
-pub struct Wish {
+pub struct Submission {
     pub head: Head,
     pub now: u64,
 }

@@ -15,12 +15,12 @@ use Rattle.laws.proofs.Tests.{less, most, equal, itself, both, either, implies,
 use Rattle.laws.proofs.Folds.{all-of, fold-all, fold-from-all}
 use Rattle.open_frame.specs.Open.{headListed}
 use Rattle.open_frame.specs.declared.Head.{Head}
-use Rattle.port_parts.specs.Parts.{noPhy, blank, isFree, inRange, sameKey, sameNexus}
+use Rattle.port_parts.specs.Parts.{absentPhy, blank, isFree, inRange, sameKey, sameNexus}
 use Rattle.port_parts.specs.declared.Phy.{Phy}
 use Rattle.port_parts.specs.declared.Port.{Port}
 use Rattle.port_parts.specs.declared.Request.{Request}
 use Rattle.port_parts.specs.declared.Stamp.{Stamp}
-use Rattle.port_rules.specs.Rules.{mustName, phyRule, portRule, pairedAt, paired, stampsRule, flagsRule, presentRule, requestRule, eachOf, sameTimer, apartRule, againstOf, apartFrom, apartOf, rules}
+use Rattle.port_rules.specs.Rules.{mustName, phyRule, portRule, pairedAt, paired, stampsRule, flagsRule, presentRule, requestRule, eachOf, sameTimer, apartRule, comparedOf, apartFrom, apartOf, rules}
 use Rattle.port_rules.specs.Kept.{InRange, MustName, PhyKept, Paired, Stamped, Flags, Present, Free, RequestKept, SameKey, SameNexus, SameTimer, Apart, Kept}
 
 pub range-says : (count loss : ℕ) → Says (inRange count loss) (InRange count loss)
@@ -51,7 +51,7 @@ paired-at-says p k r i =
 pub paired-says : (ps : List Phy) (r : Request) (i : ℕ) → Says (paired ps r i) (Paired ps r i)
 unfolding paired
 paired-says ps r i =
-    means (both (implies (equal (r .stage) 2) (less (r .phy) 8)) (all-of 8 (λ k h. paired-at-says (getD ps k noPhy) k r i)))
+    means (both (implies (equal (r .stage) 2) (less (r .phy) 8)) (all-of 8 (λ k h. paired-at-says (getD ps k absentPhy) k r i)))
     (λ h. record { phy = h .0; each = h .1 }, λ h. (h .phy, h .each))
 
 stamps-says : (r : Request) (last : ℕ) → Says (stampsRule r last) (Stamped r last)
@@ -103,7 +103,7 @@ timer-says s t =
 abbrev Beside : Request → Request → Type 0
 Beside a b = (Free b → ⊥) → Apart a b
 
-apart-says : (a b : Request) (i : ℕ) → Says (apartRule (againstOf a i) b) (Beside a b)
+apart-says : (a b : Request) (i : ℕ) → Says (apartRule (comparedOf a i) b) (Beside a b)
 apart-says a b i =
     means
     (failing (equal (b .stage) 0) (both (unless (key-says (a .head) (b .head))) (implies (nexus-says (a .head) (b .head)) (timer-says (a .loss) (b .loss)))))
@@ -114,7 +114,7 @@ module _ (l : List Request) where
   at i = getD l i blank
 
   -- the records from number k on, beside the one at i
-  behind : (i k : ℕ) → Says (allBelow (λ j. apartRule (againstOf (at i) i) (at (k + j))) (32 - k)) ((j : ℕ) → k ≤ j → j < 32 → Beside (at i) (at j))
+  behind : (i k : ℕ) → Says (allBelow (λ j. apartRule (comparedOf (at i) i) (at (k + j))) (32 - k)) ((j : ℕ) → k ≤ j → j < 32 → Beside (at i) (at j))
   behind i k =
       means (all-of (32 - k) (λ j h. apart-says (at i) (at (k + j)) i))
       (λ hold j from to. subst (λ (n : ℕ). Beside (at i) (at n)) (back j from) (hold (j - k) (omega arith)), λ hold j h. hold (k + j) (omega arith) (omega arith))
@@ -122,16 +122,16 @@ module _ (l : List Request) where
       back : (j : ℕ) → k ≤ j → k + (j - k) ≡ j
       back j h = omega arith
 
-  from-says : (i : ℕ) → i < 32 → Says (apartFrom l (againstOf (at i) i)) ((Free (at i) → ⊥) → (j : ℕ) → i < j → j < 32 → Beside (at i) (at j))
-  from-says i h = subst (λ (t : Bool). Says t Held) (sym (fold-from-all blank true (λ r j. apartRule (againstOf (at i) i) r) l from (32 - from))) (by (isFree (at i)) refl)
+  from-says : (i : ℕ) → i < 32 → Says (apartFrom l (comparedOf (at i) i)) ((Free (at i) → ⊥) → (j : ℕ) → i < j → j < 32 → Beside (at i) (at j))
+  from-says i h = subst (λ (t : Bool). Says t Held) (sym (fold-from-all blank true (λ r j. apartRule (comparedOf (at i) i) r) l from (32 - from))) (by (isFree (at i)) refl)
     where
       Held : Type 0
       Held = (Free (at i) → ⊥) → (j : ℕ) → i < j → j < 32 → Beside (at i) (at j)
 
       from : ℕ
-      from = againstOf (at i) i .from
+      from = comparedOf (at i) i .from
 
-      by : (t : Bool) → isFree (at i) ≡ t → Says (allBelow (λ j. apartRule (againstOf (at i) i) (at (from + j))) (32 - from)) Held
+      by : (t : Bool) → isFree (at i) ≡ t → Says (allBelow (λ j. apartRule (comparedOf (at i) i) (at (from + j))) (32 - from)) Held
       by true e =
           let all : from ≡ 32 = λ k. cond (e k || leb 32 i) 32 (i + 1) in
           means (behind i from) (λ hold there. absurd (there (eqb-true (at i .stage) 0 e)), λ hold j m n. absurd (omega arith))
@@ -141,17 +141,17 @@ module _ (l : List Request) where
 
   pub apart-all : Says (apartOf l) ((i j : ℕ) → i < j → j < 32 → (Free (at i) → ⊥) → Beside (at i) (at j))
   apart-all =
-      subst (λ (t : Bool). Says t ((i j : ℕ) → i < j → j < 32 → (Free (at i) → ⊥) → Beside (at i) (at j))) (sym (fold-all blank true (λ r i. apartFrom l (againstOf r i)) l 32))
+      subst (λ (t : Bool). Says t ((i j : ℕ) → i < j → j < 32 → (Free (at i) → ⊥) → Beside (at i) (at j))) (sym (fold-all blank true (λ r i. apartFrom l (comparedOf r i)) l 32))
       (means (all-of 32 from-says) (λ hold i j m n there. hold i (omega arith) there j m n, λ hold i h there j m n. hold i j m n there))
 
-port-says : (p : Port) → Says (portRule p) (InRange (p .count) (p .loss) × ((k : ℕ) → k < 8 → PhyKept (p .count) (getD (p .phys) k noPhy) k))
+port-says : (p : Port) → Says (portRule p) (InRange (p .count) (p .loss) × ((k : ℕ) → k < 8 → PhyKept (p .count) (getD (p .phys) k absentPhy) k))
 unfolding portRule
-port-says p = both (range-says (p .count) (p .loss)) (all-of 8 (λ k h. phy-says (p .count) (getD (p .phys) k noPhy) k))
+port-says p = both (range-says (p .count) (p .loss)) (all-of 8 (λ k h. phy-says (p .count) (getD (p .phys) k absentPhy) k))
 
-each-says : (p : Port) (l : List Request) → Says (eachOf p l) ((InRange (p .count) (p .loss) × ((k : ℕ) → k < 8 → PhyKept (p .count) (getD (p .phys) k noPhy) k)) × ((i : ℕ) → i < 32 → RequestKept p (getD l i blank) i))
+each-says : (p : Port) (l : List Request) → Says (eachOf p l) ((InRange (p .count) (p .loss) × ((k : ℕ) → k < 8 → PhyKept (p .count) (getD (p .phys) k absentPhy) k)) × ((i : ℕ) → i < 32 → RequestKept p (getD l i blank) i))
 each-says p l =
     subst
-    (λ (t : Bool). Says t ((InRange (p .count) (p .loss) × ((k : ℕ) → k < 8 → PhyKept (p .count) (getD (p .phys) k noPhy) k)) × ((i : ℕ) → i < 32 → RequestKept p (getD l i blank) i)))
+    (λ (t : Bool). Says t ((InRange (p .count) (p .loss) × ((k : ℕ) → k < 8 → PhyKept (p .count) (getD (p .phys) k absentPhy) k)) × ((i : ℕ) → i < 32 → RequestKept p (getD l i blank) i)))
     (sym (fold-all blank (portRule p) (requestRule p) l 32))
     (both (port-says p) (all-of 32 (λ i h. request-says p (getD l i blank) i)))
 

@@ -1,15 +1,20 @@
 // Document 01, 'Port': the rules of a lent state, as one test of the port, one of each record, and one of each pair of records.
 ghost use mathlib.Core.Path.{_≡_};
-ghost use Rattle.port_rules.specs.Rules.{phyRule, portRule, pairedAt, paired, presentRule, requestRule, apartStep, againstOf};
+ghost use Rattle.port_rules.specs.Rules.{phyRule, portRule, pairedAt, paired, presentRule, requestRule, apartStep, comparedOf};
 ghost use Rattle.port_rules.specs.Rules as rules;
 use open_frame::Head;
+use port_parts::NO_SLOT;
 use port_parts::Phy;
 use port_parts::Port;
 use port_parts::Request;
+use port_parts::SSP;
 use port_parts::Stamp;
+use port_parts::YES;
+use port_parts::phy_stage;
+use port_parts::request_stage;
 
 // A request that is held against those behind it.
-pub struct Against {
+pub struct Compared {
     pub head: Head,
     pub loss: Stamp,
     // The first place behind it; 32 if there is nothing to hold it against.
@@ -19,15 +24,17 @@ pub struct Against {
 fn names_right(p: Phy) -> bool
     ensures { λ a. ⌜ a ≡ rules.namesRight p ⌝ }
 {
-    let names = p.slot < 32;
-    let must = (p.stage == 2) | port_parts::has_frame_out(p);
-    (p.slot <= 32) & ((!must | names) & (!names | (must | (p.stage == 5))))
+    let names = p.slot < NO_SLOT;
+    let must = (p.stage == phy_stage::OPENING) | port_parts::has_frame_out(p);
+    (p.slot <= NO_SLOT) & ((!must | names) & (!names | (must | (p.stage == phy_stage::CLOSING))))
 }
 
 fn phy_rule(count: u8, p: Phy, k: usize) -> bool
     ensures { λ a. ⌜ a ≡ phyRule count p k ⌝ }
 {
-    (p.stage <= 6) & ((p.protocol < 3) & (names_right(p) & ((k < count as usize) | (p.stage == 0))))
+    (p.stage <= phy_stage::CLOSING_SENDING)
+        & ((p.protocol < 3)
+            & (names_right(p) & ((k < count as usize) | (p.stage == phy_stage::DISABLED))))
 }
 
 // The rules that speak of the port alone.
@@ -50,14 +57,14 @@ fn paired_at(p: Phy, k: usize, r: Request, i: usize) -> bool
     ensures { λ a. ⌜ a ≡ pairedAt p k r i ⌝ }
 {
     let names = p.slot as usize == i;
-    let on = (r.stage == 2) & (r.phy as usize == k);
+    let on = (r.stage == request_stage::IN_PROGRESS) & (r.phy as usize == k);
     (!names | on) & (!on | names)
 }
 
 fn paired(phys: [Phy; 8], r: Request, i: usize) -> bool
     ensures { λ a. ⌜ a ≡ rules.paired phys r i ⌝ }
 {
-    let mut kept = !(r.stage == 2) | (r.phy < 8);
+    let mut kept = !(r.stage == request_stage::IN_PROGRESS) | (r.phy < 8);
     let mut k: usize = 0;
     while k < 8 {
         let p = phys[k];
@@ -76,9 +83,10 @@ fn stamps_rule(r: Request, last: u64) -> bool
 fn flags_rule(r: Request) -> bool
     ensures { λ a. ⌜ a ≡ rules.flagsRule r ⌝ }
 {
-    (r.stage <= 2)
-        & ((r.cancelled <= 1)
-            & ((r.closed <= 1) & ((r.retry.set <= 1) & ((r.first.set <= 1) & (r.loss.set <= 1)))))
+    (r.stage <= request_stage::IN_PROGRESS)
+        & ((r.cancelled <= YES)
+            & ((r.closed <= YES)
+                & ((r.retry.set <= YES) & ((r.first.set <= YES) & (r.loss.set <= YES)))))
 }
 
 fn present_rule(r: Request, last: u64) -> bool
@@ -88,8 +96,8 @@ fn present_rule(r: Request, last: u64) -> bool
     let fields = open_frame::listed(h);
     flags_rule(r)
         & (fields
-            & ((!(r.cancelled == 1) | (r.stage == 2))
-                & (stamps_rule(r, last) & ((h.protocol == 1) | !(r.loss.set == 1)))))
+            & ((!(r.cancelled == YES) | (r.stage == request_stage::IN_PROGRESS))
+                & (stamps_rule(r, last) & ((h.protocol == SSP) | !(r.loss.set == YES)))))
 }
 
 // The rules that speak of one record.
@@ -97,23 +105,23 @@ pub fn request_rule(p: Port, r: Request, i: usize) -> bool
     ensures { λ a. ⌜ a ≡ requestRule p r i ⌝ }
 {
     let phys = p.phys;
-    paired(phys, r, i) & ((r.stage == 0) | present_rule(r, p.last))
+    paired(phys, r, i) & ((r.stage == request_stage::FREE) | present_rule(r, p.last))
 }
 
 // A request at place i, to be held against those behind it.
-pub fn held_against(r: Request, i: usize) -> Against
-    ensures { λ a. ⌜ a ≡ againstOf r i ⌝ }
+pub fn compared_of(r: Request, i: usize) -> Compared
+    ensures { λ a. ⌜ a ≡ comparedOf r i ⌝ }
 {
     let head = r.head;
     let loss = r.loss;
-    if (r.stage == 0) | (32 <= i) {
-        return Against {
+    if (r.stage == request_stage::FREE) | (32 <= i) {
+        return Compared {
             head,
             loss,
             from: 32,
         };
     }
-    Against {
+    Compared {
         head,
         loss,
         from: i + 1,
@@ -123,13 +131,13 @@ pub fn held_against(r: Request, i: usize) -> Against
 fn same_timer(s: Stamp, t: Stamp) -> bool
     ensures { λ a. ⌜ a ≡ rules.sameTimer s t ⌝ }
 {
-    let runs = s.set == 1;
-    let other = t.set == 1;
+    let runs = s.set == YES;
+    let other = t.set == YES;
     ((!runs | other) & (!other | runs)) & (!runs | (s.at == t.at))
 }
 
 // The rules that speak of two records.
-pub fn apart_step(kept: bool, r: Request, i: usize, x: Against) -> bool
+pub fn apart_step(kept: bool, r: Request, i: usize, x: Compared) -> bool
     ensures { λ a. ⌜ a ≡ apartStep kept r i x ⌝ }
 {
     let h = r.head;
@@ -139,6 +147,6 @@ pub fn apart_step(kept: bool, r: Request, i: usize, x: Against) -> bool
     }
     let alike = x.head.protocol == h.protocol;
     let key = alike & (x.head.tag == h.tag);
-    let nexus = alike & (h.protocol == 1);
-    kept & ((r.stage == 0) | (!key & (!nexus | same_timer(x.loss, r.loss))))
+    let nexus = alike & (h.protocol == SSP);
+    kept & ((r.stage == request_stage::FREE) | (!key & (!nexus | same_timer(x.loss, r.loss))))
 }

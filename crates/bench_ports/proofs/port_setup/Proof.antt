@@ -5,15 +5,15 @@ use denote.Memory.{pointee}
 use denote.Triple.Spec.{tripleOf}
 use denote.Triple.Table.{entered, cited}
 use Rattle.port.specs.Calls.{shortSetup, setupCall}
-use Rattle.port_walks.proofs.Callees.{gives1}
-use Rattle.port_walks.proofs.Rec.{R}
+use Rattle.port_list.proofs.Callees.{gives1}
+use Rattle.port_list.proofs.Rec.{R}
 use package.mir.Syntax.{w8, w16, tyInt}
 use denote.Plain.{uint-lawful}
-use Rattle.port_walks.proofs.Arg.{number}
+use Rattle.port_list.proofs.Arg.{number}
 use Rattle.port.proofs.Rows.{SteppedR, stepped, stepped-lawful}
 use Rattle.port.proofs.setup.Symbol as call-def
 use Rattle.port.proofs.setup.Met as call-thm
-use Rattle.bench_ports.specs.Face.{replyOf}
+use Rattle.bench_ports.specs.Face.{numbered}
 use Rattle.bench_ports.proofs.Rows.{ReplyR, reply, reply-lawful}
 use Rattle.bench_ports.proofs.Through.{callee, through}
 use Rattle.bench_ports.proofs.numbered.Symbol as reply-def
@@ -35,4 +35,4 @@ port-setup-spec 𝓤 H 𝓜 𝓖 𝓡 =
     (λ c u g. uint-lawful 𝓤 H (𝓖 .A) W w8 .typed c _ g .0) (λ c u g. uint-lawful 𝓤 H (𝓖 .A) W w16 .typed c _ g .0) (λ c u g. stepped-lawful 𝓤 H (𝓖 .A) W .typed c _ g .0) (λ c u g. reply-lawful 𝓤 H (𝓖 .A) W .typed c _ g .0)
     𝓤 H (𝓖 .A) W (tablesOf 𝓤 H 𝓜 (tables 𝓤 H 𝓜 𝓡 code.env))
     (cited 𝓤 H (callee (number w8) (number w16) shortSetup setupCall 𝓤 H (𝓖 .A)) 𝓜 𝓡 code.env call-def.name call-def.routine code.calls-port·setup (call-thm.met 𝓤 H 𝓜 𝓖 𝓡))
-    (cited 𝓤 H (gives1 stepped reply replyOf 𝓤 H (𝓖 .A)) 𝓜 𝓡 code.env reply-def.name reply-def.routine code.calls-bench-ports·numbered (reply-thm.met 𝓤 H 𝓜 𝓖 𝓡)))
+    (cited 𝓤 H (gives1 stepped reply numbered 𝓤 H (𝓖 .A)) 𝓜 𝓡 code.env reply-def.name reply-def.routine code.calls-bench-ports·numbered (reply-thm.met 𝓤 H 𝓜 𝓖 𝓡)))

@@ -5,12 +5,12 @@ use denote.Memory.{pointee}
 use denote.Triple.Spec.{tripleOf}
 use denote.Triple.Table.{entered, cited}
 use Rattle.port.specs.Calls.{short, submitCall}
-use Rattle.port_walks.proofs.Callees.{gives1}
-use Rattle.port_walks.proofs.Rec.{R}
-use Rattle.port.proofs.Rows.{PortR, port, port-lawful, WishR, wish, wish-lawful, SteppedR, stepped, stepped-lawful}
+use Rattle.port_list.proofs.Callees.{gives1}
+use Rattle.port_list.proofs.Rec.{R}
+use Rattle.port.proofs.Rows.{PortR, port, port-lawful, SubmissionR, submission, submission-lawful, SteppedR, stepped, stepped-lawful}
 use Rattle.port.proofs.submit.Symbol as call-def
 use Rattle.port.proofs.submit.Met as call-thm
-use Rattle.bench_ports.specs.Face.{replyOf}
+use Rattle.bench_ports.specs.Face.{numbered}
 use Rattle.bench_ports.proofs.Rows.{ReplyR, reply, reply-lawful}
 use Rattle.bench_ports.proofs.Through.{callee, through}
 use Rattle.bench_ports.proofs.numbered.Symbol as reply-def
@@ -27,9 +27,9 @@ port-submit-spec 𝓤 H 𝓜 𝓖 𝓡 =
     let W = givenOf 𝓤 H 𝓜 𝓖 in
     entered 𝓤 H (tripleOf 𝓤 H (𝓖 .A) it.signature (it.spec 𝓤 H (𝓖 .A) (𝓜 .mem) (𝓡 .run)))
     (tables 𝓤 H 𝓜 𝓡 code.env .C) (tables 𝓤 H 𝓜 𝓡 code.env .Λ) #it code.function (code.unfolded 𝓤 H 𝓜 𝓡)
-    (through port wish short submitCall
-    (spell mir.table (pointee (R .written))) (spell mir.table (pointee (SteppedR .written))) (spell mir.table (pointee (ReplyR .written))) (spell mir.table (pointee (PortR .written))) (spell mir.table (pointee (WishR .written))) call-def.name
-    (λ c u g. port-lawful 𝓤 H (𝓖 .A) W .typed c _ g .0) (λ c u g. wish-lawful 𝓤 H (𝓖 .A) W .typed c _ g .0) (λ c u g. stepped-lawful 𝓤 H (𝓖 .A) W .typed c _ g .0) (λ c u g. reply-lawful 𝓤 H (𝓖 .A) W .typed c _ g .0)
+    (through port submission short submitCall
+    (spell mir.table (pointee (R .written))) (spell mir.table (pointee (SteppedR .written))) (spell mir.table (pointee (ReplyR .written))) (spell mir.table (pointee (PortR .written))) (spell mir.table (pointee (SubmissionR .written))) call-def.name
+    (λ c u g. port-lawful 𝓤 H (𝓖 .A) W .typed c _ g .0) (λ c u g. submission-lawful 𝓤 H (𝓖 .A) W .typed c _ g .0) (λ c u g. stepped-lawful 𝓤 H (𝓖 .A) W .typed c _ g .0) (λ c u g. reply-lawful 𝓤 H (𝓖 .A) W .typed c _ g .0)
     𝓤 H (𝓖 .A) W (tablesOf 𝓤 H 𝓜 (tables 𝓤 H 𝓜 𝓡 code.env))
-    (cited 𝓤 H (callee port wish short submitCall 𝓤 H (𝓖 .A)) 𝓜 𝓡 code.env call-def.name call-def.routine code.calls-port·submit (call-thm.met 𝓤 H 𝓜 𝓖 𝓡))
-    (cited 𝓤 H (gives1 stepped reply replyOf 𝓤 H (𝓖 .A)) 𝓜 𝓡 code.env reply-def.name reply-def.routine code.calls-bench-ports·numbered (reply-thm.met 𝓤 H 𝓜 𝓖 𝓡)))
+    (cited 𝓤 H (callee port submission short submitCall 𝓤 H (𝓖 .A)) 𝓜 𝓡 code.env call-def.name call-def.routine code.calls-port·submit (call-thm.met 𝓤 H 𝓜 𝓖 𝓡))
+    (cited 𝓤 H (gives1 stepped reply numbered 𝓤 H (𝓖 .A)) 𝓜 𝓡 code.env reply-def.name reply-def.routine code.calls-bench-ports·numbered (reply-thm.met 𝓤 H 𝓜 𝓖 𝓡)))

@@ -1,4 +1,4 @@
--- `port::cancel` meets its contract: `Call.antt`'s law, at `by_key` and `cancel_core`. Assumes nothing.
+-- `port::cancel` meets its contract: `Call.antt`'s law, at `by_key` and `cancel_found`. Assumes nothing.
 use package.mir.Syntax.{w64}
 use package.mir.Table.{spell}
 use contract.Running.{givenOf, tables, tablesOf}
@@ -6,27 +6,27 @@ use denote.Memory.{pointee}
 use denote.Triple.Spec.{tripleOf}
 use denote.Triple.Table.{entered, cited}
 use Rattle.port.specs.Calls.{short, cancelCall}
-use Rattle.port.specs.Scans.{surveyed, keyStart, keyJoin, cancelAsk, cancelSlot, cancelCore}
-use Rattle.port.proofs.Told.{cancel-is}
-use Rattle.port_walks.proofs.Arg.{number}
-use Rattle.port_walks.proofs.Rec.{R, request, lawful}
+use Rattle.port.specs.Scans.{surveyed, keyStart, keyJoin, cancelAsk, cancelSlot, cancelFound}
+use Rattle.port.proofs.Scanned.{cancel-is}
+use Rattle.port_list.proofs.Arg.{number}
+use Rattle.port_list.proofs.Rec.{R, request, lawful}
 use Rattle.port.proofs.Rows.{KeyedR, keyed, keyed-lawful, NamedR, named, named-lawful, PortR, port, port-lawful, WithdrawnR, withdrawn, withdrawn-lawful, DoneR, done, done-lawful, SteppedR, stepped, stepped-lawful}
-use Rattle.port_walks.proofs.Callees.{gives1, gives2, gives4, looks}
+use Rattle.port_list.proofs.Callees.{gives1, gives2, gives4, looks}
 use Rattle.port.proofs.Call.{recordAt, Apply, call-meets}
-use Rattle.port.proofs.short.Symbol as refuse-def
-use Rattle.port.proofs.short.Met as refuse-thm
-use Rattle.port.proofs.cancel_ask.Symbol as ask-def
-use Rattle.port.proofs.cancel_ask.Met as ask-thm
-use Rattle.port.proofs.by_key.Symbol as scan-def
-use Rattle.port.proofs.by_key.Met as scan-thm
-use Rattle.port.proofs.cancel_slot.Symbol as slot-def
-use Rattle.port.proofs.cancel_slot.Met as slot-thm
-use Rattle.port.proofs.load.Symbol as load-def
-use Rattle.port.proofs.load.Met as load-thm
-use Rattle.port.proofs.cancel_core.Symbol as core-def
-use Rattle.port.proofs.cancel_core.Met as core-thm
-use Rattle.port.proofs.left.Symbol as left-def
-use Rattle.port.proofs.left.Met as left-thm
+use Rattle.port.proofs.leaves.short.Symbol as refuse-def
+use Rattle.port.proofs.leaves.short.Met as refuse-thm
+use Rattle.port.proofs.asks.cancel_ask.Symbol as ask-def
+use Rattle.port.proofs.asks.cancel_ask.Met as ask-thm
+use Rattle.port.proofs.scans.by_key.Symbol as scan-def
+use Rattle.port.proofs.scans.by_key.Met as scan-thm
+use Rattle.port.proofs.asks.cancel_slot.Symbol as slot-def
+use Rattle.port.proofs.asks.cancel_slot.Met as slot-thm
+use Rattle.port.proofs.scans.load.Symbol as load-def
+use Rattle.port.proofs.scans.load.Met as load-thm
+use Rattle.port.proofs.asks.cancel_found.Symbol as core-def
+use Rattle.port.proofs.asks.cancel_found.Met as core-thm
+use Rattle.port.proofs.leaves.left.Symbol as left-def
+use Rattle.port.proofs.leaves.left.Met as left-thm
 use Rattle.port.proofs.cancel.Key.{name as #port·cancel}
 use Rattle.port.proofs.cancel as it
 use Rattle.port.proofs.cancel.Statement as stated
@@ -39,14 +39,14 @@ cancel-spec 𝓤 H 𝓜 𝓖 𝓡 =
     let W = givenOf 𝓤 H 𝓜 𝓖 in
     entered 𝓤 H (tripleOf 𝓤 H (𝓖 .A) it.signature (it.spec 𝓤 H (𝓖 .A) (𝓜 .mem) (𝓡 .run)))
     (tables 𝓤 H 𝓜 𝓡 code.env .C) (tables 𝓤 H 𝓜 𝓡 code.env .Λ) #port·cancel code.function (code.unfolded 𝓤 H 𝓜 𝓡)
-    (call-meets port withdrawn keyed named short cancelAsk (surveyed keyJoin keyStart) cancelSlot cancelCore cancelCall cancel-is
+    (call-meets port withdrawn keyed named short cancelAsk (surveyed keyJoin keyStart) cancelSlot cancelFound cancelCall cancel-is
     (spell mir.table (pointee (R .written))) (spell mir.table (pointee (DoneR .written))) (spell mir.table (pointee (SteppedR .written))) (spell mir.table (pointee (PortR .written))) (spell mir.table (pointee (WithdrawnR .written))) (spell mir.table (pointee (KeyedR .written))) (spell mir.table (pointee (NamedR .written))) refuse-def.name ask-def.name scan-def.name slot-def.name core-def.name
     (λ c u g. port-lawful 𝓤 H (𝓖 .A) W .typed c _ g .0) (λ c u g. withdrawn-lawful 𝓤 H (𝓖 .A) W .typed c _ g .0) (λ c u g. keyed-lawful 𝓤 H (𝓖 .A) W .typed c _ g .0) (λ c u g. named-lawful 𝓤 H (𝓖 .A) W .typed c _ g .0) (λ c u g. lawful 𝓤 H (𝓖 .A) W .typed c _ g .0) (λ c u g. done-lawful 𝓤 H (𝓖 .A) W .typed c _ g .0) (λ c u g. stepped-lawful 𝓤 H (𝓖 .A) W .typed c _ g .0)
     𝓤 H (𝓖 .A) W (𝓜 .mem) (𝓡 .run) (tablesOf 𝓤 H 𝓜 (tables 𝓤 H 𝓜 𝓡 code.env))
-    (cited 𝓤 H (gives1 port stepped short 𝓤 H (𝓖 .A)) 𝓜 𝓡 code.env refuse-def.name refuse-def.routine code.calls-port·short (refuse-thm.met 𝓤 H 𝓜 𝓖 𝓡))
-    (cited 𝓤 H (gives2 port withdrawn keyed cancelAsk 𝓤 H (𝓖 .A)) 𝓜 𝓡 code.env ask-def.name ask-def.routine code.calls-port·cancel-ask (ask-thm.met 𝓤 H 𝓜 𝓖 𝓡))
-    (cited 𝓤 H (looks keyed named (surveyed keyJoin keyStart) 𝓤 H (𝓖 .A)) 𝓜 𝓡 code.env scan-def.name scan-def.routine code.calls-port·by-key (scan-thm.met 𝓤 H 𝓜 𝓖 𝓡))
-    (cited 𝓤 H (gives2 named withdrawn (number w64) cancelSlot 𝓤 H (𝓖 .A)) 𝓜 𝓡 code.env slot-def.name slot-def.routine code.calls-port·cancel-slot (slot-thm.met 𝓤 H 𝓜 𝓖 𝓡))
-    (cited 𝓤 H (looks (number w64) request recordAt 𝓤 H (𝓖 .A)) 𝓜 𝓡 code.env load-def.name load-def.routine code.calls-port·load (load-thm.met 𝓤 H 𝓜 𝓖 𝓡))
-    (cited 𝓤 H (gives4 port request named withdrawn done cancelCore 𝓤 H (𝓖 .A)) 𝓜 𝓡 code.env core-def.name core-def.routine code.calls-port·cancel-core (core-thm.met 𝓤 H 𝓜 𝓖 𝓡))
-    (cited 𝓤 H (Apply 𝓤 H (𝓖 .A) (𝓜 .mem) (𝓡 .run)) 𝓜 𝓡 code.env left-def.name left-def.routine code.calls-port·left (left-thm.met 𝓤 H 𝓜 𝓖 𝓡)))
+    (cited 𝓤 H (gives1 port stepped short 𝓤 H (𝓖 .A)) 𝓜 𝓡 code.env refuse-def.name refuse-def.routine code.calls-port·leaves·short (refuse-thm.met 𝓤 H 𝓜 𝓖 𝓡))
+    (cited 𝓤 H (gives2 port withdrawn keyed cancelAsk 𝓤 H (𝓖 .A)) 𝓜 𝓡 code.env ask-def.name ask-def.routine code.calls-port·asks·cancel-ask (ask-thm.met 𝓤 H 𝓜 𝓖 𝓡))
+    (cited 𝓤 H (looks keyed named (surveyed keyJoin keyStart) 𝓤 H (𝓖 .A)) 𝓜 𝓡 code.env scan-def.name scan-def.routine code.calls-port·scans·by-key (scan-thm.met 𝓤 H 𝓜 𝓖 𝓡))
+    (cited 𝓤 H (gives2 named withdrawn (number w64) cancelSlot 𝓤 H (𝓖 .A)) 𝓜 𝓡 code.env slot-def.name slot-def.routine code.calls-port·asks·cancel-slot (slot-thm.met 𝓤 H 𝓜 𝓖 𝓡))
+    (cited 𝓤 H (looks (number w64) request recordAt 𝓤 H (𝓖 .A)) 𝓜 𝓡 code.env load-def.name load-def.routine code.calls-port·scans·load (load-thm.met 𝓤 H 𝓜 𝓖 𝓡))
+    (cited 𝓤 H (gives4 port request named withdrawn done cancelFound 𝓤 H (𝓖 .A)) 𝓜 𝓡 code.env core-def.name core-def.routine code.calls-port·asks·cancel-found (core-thm.met 𝓤 H 𝓜 𝓖 𝓡))
+    (cited 𝓤 H (Apply 𝓤 H (𝓖 .A) (𝓜 .mem) (𝓡 .run)) 𝓜 𝓡 code.env left-def.name left-def.routine code.calls-port·leaves·left (left-thm.met 𝓤 H 𝓜 𝓖 𝓡)))

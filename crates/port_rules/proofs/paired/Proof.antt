@@ -7,13 +7,13 @@ use native.Mathlib.Omega.{arith}
 use lib.Dec.{ltb}
 use lib.ListN.{getD}
 use Rattle.laws.specs.Folds.{allBelow}
-use Rattle.port_parts.specs.Parts.{noPhy, isInProgress}
+use Rattle.port_parts.specs.Parts.{absentPhy, isInProgress}
 use Rattle.port_rules.specs.Rules.{pairedAt, paired}
 use Rattle.port_rules.proofs.paired.Statement.{statement}
 use Rattle.port_rules.proofs.paired.Tie as tie
 
 abbrev Inv-loop : tie.InvT-loop
-Inv-loop r i phys kept₀ k₀ kept k = (k ≤ 8) × (kept ≡ (not (isInProgress r) || ltb (r .phy) 8) && allBelow (λ j. pairedAt (getD phys j noPhy) j r i) k)
+Inv-loop r i phys kept₀ k₀ kept k = (k ≤ 8) × (kept ≡ (not (isInProgress r) || ltb (r .phy) 8) && allBelow (λ j. pairedAt (getD phys j absentPhy) j r i) k)
 
 abbrev μ-loop : tie.MeasureT-loop
 μ-loop r i phys kept₀ k₀ kept k = 8 - k
@@ -21,7 +21,7 @@ abbrev μ-loop : tie.MeasureT-loop
 loop-holds : tie.Need-loop-holds Inv-loop μ-loop
 loop-holds c =
     let a = c .before .before .args in
-    (omega arith, all-start (not (isInProgress (a .r)) || ltb (a .r .phy) 8) (λ j. pairedAt (getD (a .t1) j noPhy) j (a .r) (a .i)))
+    (omega arith, all-start (not (isInProgress (a .r)) || ltb (a .r .phy) 8) (λ j. pairedAt (getD (a .t1) j absentPhy) j (a .r) (a .i)))
 
 mul-p : tie.Need-mul-p Inv-loop μ-loop
 mul-p c = omega arith
@@ -42,7 +42,7 @@ loop-again : tie.Need-loop-again Inv-loop μ-loop
 loop-again c =
     let l = c .before .before .before in
     let a = l .before .before .before .args in
-    (omega arith, all-next (not (isInProgress (a .r)) || ltb (a .r .phy) 8) (λ j. pairedAt (getD (a .t1) j noPhy) j (a .r) (a .i)) (l .loop .k) (l .loop .inv .1) (c .paired-at .ensures))
+    (omega arith, all-next (not (isInProgress (a .r)) || ltb (a .r .phy) 8) (λ j. pairedAt (getD (a .t1) j absentPhy) j (a .r) (a .i)) (l .loop .k) (l .loop .inv .1) (c .paired-at .ensures))
 
 returns : tie.Need-returns Inv-loop μ-loop
 unfolding paired

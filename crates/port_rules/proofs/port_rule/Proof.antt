@@ -6,13 +6,13 @@ use Prim.Native.Nat.{_-_, _≤_}
 use native.Mathlib.Omega.{arith}
 use lib.ListN.{getD}
 use Rattle.laws.specs.Folds.{allBelow}
-use Rattle.port_parts.specs.Parts.{noPhy, inRange}
+use Rattle.port_parts.specs.Parts.{absentPhy, inRange}
 use Rattle.port_rules.specs.Rules.{phyRule, portRule}
 use Rattle.port_rules.proofs.port_rule.Statement.{statement}
 use Rattle.port_rules.proofs.port_rule.Tie as tie
 
 abbrev Inv-loop : tie.InvT-loop
-Inv-loop p count kept₀ k₀ kept k = (k ≤ 8) × (kept ≡ inRange (p .count) (p .loss) && allBelow (λ j. phyRule (p .count) (getD (p .phys) j noPhy) j) k)
+Inv-loop p count kept₀ k₀ kept k = (k ≤ 8) × (kept ≡ inRange (p .count) (p .loss) && allBelow (λ j. phyRule (p .count) (getD (p .phys) j absentPhy) j) k)
 
 abbrev μ-loop : tie.MeasureT-loop
 μ-loop p count kept₀ k₀ kept k = 8 - k
@@ -23,7 +23,7 @@ in-range-requires c κs = tt
 loop-holds : tie.Need-loop-holds Inv-loop μ-loop
 loop-holds c =
     let p = c .before .args .t1 in
-    (omega arith, c .in-range .ensures ∙ all-start (inRange (p .count) (p .loss)) (λ j. phyRule (p .count) (getD (p .phys) j noPhy) j))
+    (omega arith, c .in-range .ensures ∙ all-start (inRange (p .count) (p .loss)) (λ j. phyRule (p .count) (getD (p .phys) j absentPhy) j))
 
 mul-phy : tie.Need-mul-phy Inv-loop μ-loop
 mul-phy c = omega arith
@@ -44,7 +44,7 @@ loop-again : tie.Need-loop-again Inv-loop μ-loop
 loop-again c =
     let l = c .before .before .before in
     let p = l .before .before .args .t1 in
-    (omega arith, all-next (inRange (p .count) (p .loss)) (λ j. phyRule (p .count) (getD (p .phys) j noPhy) j) (l .loop .k) (l .loop .inv .1) (c .phy-rule .ensures))
+    (omega arith, all-next (inRange (p .count) (p .loss)) (λ j. phyRule (p .count) (getD (p .phys) j absentPhy) j) (l .loop .k) (l .loop .inv .1) (c .phy-rule .ensures))
 
 returns : tie.Need-returns Inv-loop μ-loop
 unfolding portRule

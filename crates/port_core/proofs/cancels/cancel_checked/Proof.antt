@@ -1,0 +1,22 @@
+-- The four tests stand in the order of `cancelCauses`, so that the first that holds is the one that refuses. Assumes nothing.
+use borrow.Author.Tests.{le-ltb, lt-ltb}
+use Rattle.port_core.proofs.cancels.cancel_checked.Statement.{statement}
+use Rattle.port_core.proofs.cancels.cancel_checked.Tie as tie
+
+returns : tie.Need-returns
+returns c = rw (c .if1 .taken)
+
+returns-2 : tie.Need-returns-2
+returns-2 c = rw (c .before .if1 .left, c .if2 .taken)
+
+returns-3 : tie.Need-returns-3
+returns-3 c = rw (c .before .before .before .before .if1 .left, c .before .before .before .if2 .left, lt-ltb _ _ (c .if3 .taken))
+
+returns-4 : tie.Need-returns-4
+returns-4 c = rw (c .before .before .before .before .before .before .if1 .left, c .before .before .before .before .before .if2 .left, le-ltb _ _ (c .before .before .if3 .left), c .if4 .taken)
+
+returns-5 : tie.Need-returns-5
+returns-5 c = rw (c .before .before .before .before .before .before .if1 .left, c .before .before .before .before .before .if2 .left, le-ltb _ _ (c .before .before .if3 .left), c .if4 .left)
+
+pub cancel-checked-spec : {M : Type 1} → statement M
+cancel-checked-spec = tie.close (tie.spec returns returns-2 returns-3 returns-4 returns-5)

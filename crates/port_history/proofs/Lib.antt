@@ -1,0 +1,23 @@
+-- Each accepted submit leaves once, with one last word.
+pub mod Records
+pub mod Cores
+pub mod Steps
+pub mod Entries
+pub mod Counts
+pub mod Histories
+pub mod Turns
+pub mod Givens
+pub mod Runs
+pub mod Leaving
+pub mod Ends
+pub mod Marks
+pub mod Carried
+pub mod Each
+pub mod Fields
+pub mod Stamps
+pub mod Times
+pub mod Tags
+pub mod Timers
+pub mod Moves
+pub mod Losses
+pub mod Since
