@@ -53,6 +53,7 @@ struct open_vector {
 };
 
 /*
+ * 01 OPEN.1: OPEN address frame, 28 bytes, big-endian
  * 01 OPEN.2: Byte 0: bit 7 initiator, bits 6 to 4 protocol (0 SMP, 1 SSP, 2 STP), bits 3 to 0 type 1.
  * 01 OPEN.3: Byte 1: features (high four bits), rate (low four: 8, 9 or 10).
  * 01 OPEN.4: Bytes 2-3 initiator connection tag; 4-11 destination; 12-19 source; 21 PBC; 22-23 AWT.

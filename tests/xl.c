@@ -322,7 +322,7 @@ static void compare_state(int state, const char *memory, char **at)
 }
 
 /*
- * 01 XL.31 01 XL.32 01 TRAP.2
+ * 01 XL.31 01 XL.32 01 OPEN.9 01 EXAMPLE.3 01 TRAP.2
  * The frame transmitted has AWT 100, source 1000 and rate 9. By its number an OPEN has: 0 AWT 99 and a larger source, 1 the same AWT
  * and a smaller source, 2 both the same, 3 the same AWT and a larger source, 4 AWT 101 and a smaller source.
  */

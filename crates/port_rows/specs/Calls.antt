@@ -168,8 +168,7 @@ cancelCauses p r kept s x =
 abbrev pub closingPhy : Phy → Phy
 closingPhy f = stagedPhy (cond (isSending f) phy-stage.closingSending (f .stage)) (f .slot) f
 
--- 01 PORT.23
--- in progress: Stop Arb while opening, Close while connected
+-- 01 PORT.23: in progress: Stop Arb while opening, Close while connected
 abbrev pub stopped : Port → Request → ℕ → ℕ → Done
 stopped p r s now =
     stored (withPhy p (r .phy) (closingPhy (phyAt p (r .phy))) now)
@@ -185,16 +184,16 @@ cancelCore p r kept s x = refuse (refusedBy p) (cancelCauses p r kept s x) (canc
 
 -- ---- a request that was cancelled
 
--- 01 PORT.23
--- Opened of a request that was cancelled gives Close: its phy closes, and the frame doesn't go
+-- 01 PORT.23: Opened after that gives Close
+-- its phy closes, and the frame doesn't go
 abbrev pub openedWord : Request → Word
 openedWord r = cond (isCancelled r) Close Send
 
 abbrev pub openedStage : Request → ℕ
 openedStage r = cond (isCancelled r) phy-stage.closing phy-stage.sending
 
--- 01 PORT.23
--- any end, retry, closing or disabling of a request that was cancelled is Cancel Acknowledged
+-- 01 PORT.23: any end, retry, closing or disabling then is Cancel Acknowledged.
+-- the word on a request that would be w if it had not been cancelled
 abbrev pub unlessCancelled : Request → Word → Word
 unlessCancelled r w = cond (isCancelled r) CancelAcknowledged w
 
@@ -204,8 +203,7 @@ unlessCancelled r w = cond (isCancelled r) CancelAcknowledged w
 abbrev pub chooseCauses : Port → Bool → ℕ → List Cause
 chooseCauses p kept now = (Refusal.Rules when not kept) ∷ (Refusal.Past when ltb now (p .last)) ∷ []
 
--- 01 PORT.13
--- (1) the frame goes on a phy that is connected already
+-- 01 PORT.13: (1) connected to its destination and protocol and idle: send
 abbrev pub sent : Port → Request → Pick → ℕ → Done
 sent p r b now =
     stored (withPhy p (b .phy) (stagedPhy phy-stage.sending (b .slot) (phyAt p (b .phy))) now)
@@ -228,14 +226,14 @@ asking s k r = record { word = Open; slot = s; phy = k; frame = record { head = 
 abbrev pub asked : Request → ℕ → ℕ → Request
 asked r k now = waited (placed r request-stage.inProgress k) (r .pbc) (waitSince r now) (r .retry) (firstOpen r now)
 
--- 01 PORT.13 01 PORT.16
--- (2) a phy that is unconnected opens
+-- 01 PORT.16
+-- 01 PORT.13: (2) unconnected: open
 abbrev pub opening : Port → Request → Pick → ℕ → Done
 opening p r b now =
     stored (withPhy p (b .phy) (openingPhy (b .slot)) now) (asking (b .slot) (b .phy) (asked r (b .phy) now)) (asked r (b .phy) now) noLoss
 
--- 01 PORT.13
--- (3) a phy that is connected elsewhere closes, once per request; it names none, and the request goes on waiting
+-- 01 PORT.13: (3) connected elsewhere and idle: close that phy, once per request
+-- the phy names no request then, and this one goes on waiting
 abbrev pub closing : Port → Request → Pick → ℕ → Done
 closing p r b now =
     stored (withPhy p (b .phy) (stagedPhy phy-stage.closing noSlot (phyAt p (b .phy))) now)

@@ -39,7 +39,7 @@ dataHeader h fill = record {
 abbrev pub dataBytes : DataHead → List ℕ → List ℕ
 dataBytes h body = layBytes (headerFields (dataHeader h (fillOf (length body)))) ++ (body ++ replicate (fillOf (length body)) 0)
 
--- 01 DATA.3
+-- 01 DATA.3: bytes past the frame stay
 -- the output with the frame at its front
 abbrev pub dataLeft : DataHead → List ℕ → List ℕ → List ℕ
 dataLeft h body out = dataBytes h body ++ drop (frameEnd (length body)) out
@@ -78,6 +78,7 @@ kindListed h = eqb (h .kind) 1 && (ltb (h .bits) 2 && eqb (h .transfer) 65535)
 abbrev pub filled : List ℕ → Bool
 filled s = eqb (beAt s (length s - getD s 11 0) (getD s 11 0)) 0
 
+-- 01 DATA.4: any header byte off this layout or fill not zero is 2
 abbrev pub readCauses : List ℕ → List Cause
 readCauses s = bufferCauses (frameSized (length s)) ((blank s && kindListed (headerOf s)) && filled s)
 
