@@ -23,8 +23,8 @@ use Rattle.open_frame.proofs.wait_value.Kinds as wait-value-of
 use Rattle.open_frame.proofs.wait_value.Reads as wait-value
 use Rattle.open_frame.proofs.higher.Kinds as higher-of
 use Rattle.open_frame.proofs.higher.Reads as higher
-use Rattle.ssp_frame.proofs.data.listed.Kinds as data-listed-of
-use Rattle.ssp_frame.proofs.data.listed.Reads as data-listed
+use Rattle.ssp_frame.proofs.data.data_listed.Kinds as data-listed-of
+use Rattle.ssp_frame.proofs.data.data_listed.Reads as data-listed
 use Rattle.ssp_frame.proofs.data.read_data.Kinds as read-data-of
 use Rattle.ssp_frame.proofs.data.read_data.Reads as read-data
 use Rattle.ssp_frame.proofs.data.write_data.Kinds as write-data-of
@@ -57,12 +57,12 @@ use Rattle.send.proofs.next_frame.Kinds as next-frame-of
 use Rattle.send.proofs.next_frame.Reads as next-frame
 use Rattle.lines.proofs.read_number.Kinds as read-number-of
 use Rattle.lines.proofs.read_number.Reads as read-number
-use Rattle.lines.proofs.find.Kinds as find-of
-use Rattle.lines.proofs.find.Reads as find
-use Rattle.lines.proofs.fields.Kinds as fields-of
-use Rattle.lines.proofs.fields.Reads as fields
-use Rattle.lines.proofs.field.Kinds as field-of
-use Rattle.lines.proofs.field.Reads as field
+use Rattle.lines.proofs.place_from.Kinds as place-from-of
+use Rattle.lines.proofs.place_from.Reads as place-from
+use Rattle.lines.proofs.field_count.Kinds as field-count-of
+use Rattle.lines.proofs.field_count.Reads as field-count
+use Rattle.lines.proofs.field_at.Kinds as field-at-of
+use Rattle.lines.proofs.field_at.Reads as field-at
 use Rattle.lines.proofs.same.Kinds as same-of
 use Rattle.lines.proofs.same.Reads as same
 use Rattle.lines.proofs.put_byte.Kinds as put-byte-of
@@ -244,9 +244,9 @@ pub record Total : Type 2 where
   pub cancel : Anything 0 cancel-of.ps cancel.Pre
   pub next-frame : Anything 2 next-frame-of.ps next-frame.Pre
   pub read-number : Anything 1 read-number-of.ps read-number.Pre
-  pub find : Anything 1 find-of.ps find.Pre
-  pub fields : Anything 1 fields-of.ps fields.Pre
-  pub field : Anything 1 field-of.ps field.Pre
+  pub place-from : Anything 1 place-from-of.ps place-from.Pre
+  pub field-count : Anything 1 field-count-of.ps field-count.Pre
+  pub field-at : Anything 1 field-at-of.ps field-at.Pre
   pub same : Anything 2 same-of.ps same.Pre
   pub put-byte : Anything 1 put-byte-of.ps put-byte.Pre
   pub put-bytes : Anything 2 put-bytes-of.ps put-bytes.Pre
@@ -360,9 +360,9 @@ total = record {
   cancel = λ κs a. tt;
   next-frame = λ κs a. tt;
   read-number = λ κs a. tt;
-  find = λ κs a. tt;
-  fields = λ κs a. tt;
-  field = λ κs a. tt;
+  place-from = λ κs a. tt;
+  field-count = λ κs a. tt;
+  field-at = λ κs a. tt;
   same = λ κs a. tt;
   put-byte = λ κs a. tt;
   put-bytes = λ κs a. tt;

@@ -29,8 +29,8 @@ use Rattle.open_frame.proofs.wait_value.Kinds as wait-value-of
 use Rattle.open_frame.proofs.wait_value.Reads as wait-value
 use Rattle.open_frame.proofs.higher.Kinds as higher-of
 use Rattle.open_frame.proofs.higher.Reads as higher
-use Rattle.ssp_frame.proofs.data.listed.Kinds as data-listed-of
-use Rattle.ssp_frame.proofs.data.listed.Reads as data-listed
+use Rattle.ssp_frame.proofs.data.data_listed.Kinds as data-listed-of
+use Rattle.ssp_frame.proofs.data.data_listed.Reads as data-listed
 use Rattle.ssp_frame.proofs.data.read_data.Kinds as read-data-of
 use Rattle.ssp_frame.proofs.data.read_data.Reads as read-data
 use Rattle.ssp_frame.proofs.data.write_data.Kinds as write-data-of
@@ -63,12 +63,12 @@ use Rattle.send.proofs.next_frame.Kinds as next-frame-of
 use Rattle.send.proofs.next_frame.Reads as next-frame
 use Rattle.lines.proofs.read_number.Kinds as read-number-of
 use Rattle.lines.proofs.read_number.Reads as read-number
-use Rattle.lines.proofs.find.Kinds as find-of
-use Rattle.lines.proofs.find.Reads as find
-use Rattle.lines.proofs.fields.Kinds as fields-of
-use Rattle.lines.proofs.fields.Reads as fields
-use Rattle.lines.proofs.field.Kinds as field-of
-use Rattle.lines.proofs.field.Reads as field
+use Rattle.lines.proofs.place_from.Kinds as place-from-of
+use Rattle.lines.proofs.place_from.Reads as place-from
+use Rattle.lines.proofs.field_count.Kinds as field-count-of
+use Rattle.lines.proofs.field_count.Reads as field-count
+use Rattle.lines.proofs.field_at.Kinds as field-at-of
+use Rattle.lines.proofs.field_at.Reads as field-at
 use Rattle.lines.proofs.same.Kinds as same-of
 use Rattle.lines.proofs.same.Reads as same
 use Rattle.lines.proofs.put_byte.Kinds as put-byte-of
@@ -308,9 +308,9 @@ pub record Unique : Type 2 where
   pub cancel : One 0 cancel-of.ps cancel-of.r (none 0 cancel-of.ps cancel-of.r) cancel.Post
   pub next-frame : One 2 next-frame-of.ps next-frame-of.r next-frame-left next-frame.Post
   pub read-number : One 1 read-number-of.ps read-number-of.r (none 1 read-number-of.ps read-number-of.r) read-number.Post
-  pub find : One 1 find-of.ps find-of.r (none 1 find-of.ps find-of.r) find.Post
-  pub fields : One 1 fields-of.ps fields-of.r (none 1 fields-of.ps fields-of.r) fields.Post
-  pub field : (κs : Lifetimes.Lfts 1) (a : kinds.Dens κs field-of.ps) (x y : kinds.resT field-of.r κs .Denot) (s t : Clauses.AtExit (kinds.endedOf 1 field-of.ps field-of.r) κs) → field.Post κs a x s → field.Post κs a y t → now x ≡ now y
+  pub place-from : One 1 place-from-of.ps place-from-of.r (none 1 place-from-of.ps place-from-of.r) place-from.Post
+  pub field-count : One 1 field-count-of.ps field-count-of.r (none 1 field-count-of.ps field-count-of.r) field-count.Post
+  pub field-at : (κs : Lifetimes.Lfts 1) (a : kinds.Dens κs field-at-of.ps) (x y : kinds.resT field-at-of.r κs .Denot) (s t : Clauses.AtExit (kinds.endedOf 1 field-at-of.ps field-at-of.r) κs) → field-at.Post κs a x s → field-at.Post κs a y t → now x ≡ now y
   pub same : One 2 same-of.ps same-of.r (none 2 same-of.ps same-of.r) same.Post
   pub put-byte : One 1 put-byte-of.ps put-byte-of.r put-byte-left put-byte.Post
   pub put-bytes : One 2 put-bytes-of.ps put-bytes-of.r put-bytes-left put-bytes.Post
@@ -424,9 +424,9 @@ unique = record {
   cancel = λ κs a x y s t p q. (p ∙ sym q, refl);
   next-frame = λ κs a x y s t p q. (p .step ∙ sym (q .step), p .bytes ∙ sym (q .bytes));
   read-number = λ κs a x y s t p q. (p ∙ sym q, refl);
-  find = λ κs a x y s t p q. (p ∙ sym q, refl);
-  fields = λ κs a x y s t p q. (p ∙ sym q, refl);
-  field = λ κs a x y s t p q. p ∙ sym q;
+  place-from = λ κs a x y s t p q. (p ∙ sym q, refl);
+  field-count = λ κs a x y s t p q. (p ∙ sym q, refl);
+  field-at = λ κs a x y s t p q. p ∙ sym q;
   same = λ κs a x y s t p q. (p ∙ sym q, refl);
   put-byte = λ κs a x y s t p q. (p .place ∙ sym (q .place), p .bytes ∙ sym (q .bytes));
   put-bytes = λ κs a x y s t p q. (p .place ∙ sym (q .place), p .bytes ∙ sym (q .bytes));

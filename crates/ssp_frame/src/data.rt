@@ -51,13 +51,13 @@ fn data_sized(n: usize, m: usize) -> bool
 }
 
 // Whether these are fields of DATA.
-pub fn listed(h: DataHead) -> bool
+pub fn data_listed(h: DataHead) -> bool
     ensures { λ r. ⌜ r ≡ dataListed h ⌝ }
 {
     (h.destination < 16777216) & ((h.source < 16777216) & (h.changing < 2))
 }
 
-fn header_for(h: DataHead, fill: u8) -> Header
+fn data_header(h: DataHead, fill: u8) -> Header
     ensures { λ r. ⌜ r ≡ dataHeader h fill ⌝ }
 {
     Header {
@@ -104,11 +104,11 @@ pub fn write_data(h: DataHead, body: &[u8], out: &mut [u8]) -> Written
     if !data_sized(n, out.len()) {
         return Written::Refused(Refusal::Length);
     }
-    if !listed(h) {
+    if !data_listed(h) {
         return Written::Refused(Refusal::Unlisted);
     }
     let fill = fill_of(n);
-    header::put_header(header_for(h, fill as u8), out);
+    header::put_header(data_header(h, fill as u8), out);
     put_payload(body, fill, &mut out[24..]);
     Written::Done
 }

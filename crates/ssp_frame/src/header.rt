@@ -4,7 +4,7 @@ ghost use mathlib.Core.List.{_++_};
 ghost use Prim.Native.Nat.{_≤_};
 ghost use lib.ListN.{length, drop};
 ghost use Rattle.wire.specs.Fields.{layBytes};
-ghost use Rattle.ssp_frame.specs.Header.{headerFields, headerOf, blank};
+ghost use Rattle.ssp_frame.specs.Header.{headerFields, headerOf, isBlank};
 
 pub struct Header {
     // The frame's type.
@@ -60,7 +60,7 @@ pub(crate) fn header_of(s: &[u8]) -> Header
 // Whether the bytes and bits of no field are zero.
 pub(crate) fn is_blank(s: &[u8]) -> bool
     requires { ⌜ 24 ≤ length (now s) ⌝ }
-    ensures { λ r. ⌜ r ≡ blank (now (s .entry)) ⌝ }
+    ensures { λ r. ⌜ r ≡ isBlank (now (s .entry)) ⌝ }
 {
     let from = wire::get_be(s, 4, 4);
     let bits = wire::get_be(s, 8, 4);

@@ -16,7 +16,7 @@ use Rattle.refusals.specs.Causes.{refuse}
 use Rattle.refusals.specs.declared.Refusal.{Refusal}
 use Rattle.transfer.specs.Rules.{endOf, before}
 use Rattle.transfer.specs.Steps.{unfinished, draining, started, frameLength, framed, resent, finished, answered, balanced, allSent, settled}
-use Rattle.transfer.specs.Steps.{drained, acked, naked, dropped, ended, inPhase, refused, with, say, startCauses, frameCauses, answerCauses}
+use Rattle.transfer.specs.Steps.{drained, acked, nacked, dropped, ended, inPhase, refused, with, say, startCauses, frameCauses, answerCauses}
 use Rattle.transfer.specs.Steps.{endCauses, startStep, frameStep, ackStep, nakStep, dropStep, endStep}
 use Rattle.transfer.specs.Calls.{Call, start, frame, ack, nak, timeout, lost, nexus, cancel, stepOf, run}
 use Rattle.transfer.specs.History.{Frame, Entry, entries, View, nothing, anew, note, none, view, Covered}
@@ -108,8 +108,8 @@ no-frame f fs e = let z : _≡_ {A = ℕ} 0 (suc (length fs)) = ap length e in a
 abbrev ackedTo : Frame → List Frame → View → View
 ackedTo f fs v = record { acked = f ∷ v .acked; waiting = fs; attempt = v .attempt; good = f ∷ v .good; nak = v .nak; resend = v .resend }
 
-abbrev nakedTo : List Frame → View → View
-nakedTo fs v = record { acked = v .acked; waiting = fs; attempt = v .attempt; good = v .good; nak = true; resend = v .resend }
+abbrev nackedTo : List Frame → View → View
+nackedTo fs v = record { acked = v .acked; waiting = fs; attempt = v .attempt; good = v .good; nak = true; resend = v .resend }
 
 -- the invariant after a call c of s that is answered st, with the history h before it
 abbrev pub After : ℕ → Transfer → List Entry → Call → Stepped → Type 0
@@ -269,10 +269,10 @@ module _ (bound : ℕ) (s : Transfer) (v : View) (i : Inv bound s v) where
 
     -- a NAK, with others to come, of an attempt in which no more were ACKed than sent, those out not counted
     more-nak : length (v .waiting) ≡ s .unanswered → length (v .good) + s .unanswered ≤ length (v .attempt) → 1 < s .unanswered
-        → Inv bound (inPhase Phase.Drain (answered s)) (nakedTo fs v)
+        → Inv bound (inPhase Phase.Drain (answered s)) (nackedTo fs v)
     more-nak c n d =
         let l = long in
-        kept (inPhase Phase.Drain (answered s)) Phase.Drain (nakedTo fs v) refl refl refl refl (λ x h. h) fewer
+        kept (inPhase Phase.Drain (answered s)) Phase.Drain (nackedTo fs v) refl refl refl refl (λ x h. h) fewer
         (record { count = omega arith; short = omega arith; seen = refl })
 
   -- the last ACK: all up to the read offset is sure
@@ -395,26 +395,26 @@ module _ (bound : ℕ) (s : Transfer) (h : List Entry) (i : Inv bound s (view h)
         (λ d. run-acks (run-phase (s .phase) u d) (view h .waiting) refl)
 
     -- a NAK that fails the transfer: not every frame of the attempt was ACKed
-    nak-fails : (f : Frame) (fs : List Frame) → view h .waiting ≡ f ∷ fs → Settled s (nakedTo fs (view h))
+    nak-fails : (f : Frame) (fs : List Frame) → view h .waiting ≡ f ∷ fs → Settled s (nackedTo fs (view h))
     nak-fails f fs e g gs a same =
         let l = tally (work (s .phase) u) in
         let q : length (view h .good) ≡ length (view h .attempt) = ap length same in
         absurd (omega arith)
 
-    naks : (w : List Frame) → view h .waiting ≡ w → After bound s h nak (naked (answered s))
-    unfolding naked drained
+    naks : (w : List Frame) → view h .waiting ≡ w → After bound s h nak (nacked (answered s))
+    unfolding nacked drained
     naks [] e = absurd (let l = ap length e in let c = as-many in omega arith)
     naks (f ∷ []) e =
         by-test (After bound s h nak) (leb (s .resends) (s .used))
-        (λ t. rw e (overs bound s (view h) i Answer.Fail Phase.Fail (anew (nakedTo [] (view h))) (λ x c. c) (omega arith) (λ o. o) (λ g gs a same. no-frame g gs a)))
+        (λ t. rw e (overs bound s (view h) i Answer.Fail Phase.Fail (anew (nackedTo [] (view h))) (λ x c. c) (omega arith) (λ o. o) (λ g gs a same. no-frame g gs a)))
         (λ t. by-test (After bound s h nak) (eqb (s .unanswered - 1) 0)
-        (λ z. rw e (anews bound s (view h) i (s .unanswered - 1) (nakedTo [] (view h)) (one-left f e) (λ x c. c)))
+        (λ z. rw e (anews bound s (view h) i (s .unanswered - 1) (nackedTo [] (view h)) (one-left f e) (λ x c. c)))
         (λ z. absurd (eqb-false (s .unanswered - 1) 0 z (one-left f e))))
     naks (f ∷ (g ∷ gs)) e =
         let b = i .few in
         let l = ap length e in
         by-test (After bound s h nak) (leb (s .resends) (s .used))
-        (λ t. rw e (overs bound s (view h) i Answer.Fail Phase.Fail (nakedTo (g ∷ gs) (view h)) (λ x c. c) (omega arith) (λ o. o) (nak-fails f (g ∷ gs) e)))
+        (λ t. rw e (overs bound s (view h) i Answer.Fail Phase.Fail (nackedTo (g ∷ gs) (view h)) (λ x c. c) (omega arith) (λ o. o) (nak-fails f (g ∷ gs) e)))
         (λ t. by-test (After bound s h nak) (eqb (s .unanswered - 1) 0)
         (λ z. absurd (let one = eqb-true (s .unanswered - 1) 0 z in let more = more-left f g gs e in omega arith))
         (λ z. rw e (more-nak bound s (view h) i f (g ∷ gs) e as-many (tally (work (s .phase) u)) (more-left f g gs e))))
@@ -459,7 +459,7 @@ module _ (bound : ℕ) (s : Transfer) (h : List Entry) (i : Inv bound s (view h)
       by-causes (After bound s h (start b n m r)) (refused s) (stays (start b n m r)) (startCauses bound b n m r s) (say Answer.Ok (started b n m r)) (λ off. begins bound b n m r)
   keeps frame = goes
   keeps ack = answer ack (acked (answered s)) (λ u some. acks u some)
-  keeps nak = answer nak (naked (answered s)) (λ u some. naks u some (view h .waiting) refl)
+  keeps nak = answer nak (nacked (answered s)) (λ u some. naks u some (view h .waiting) refl)
   keeps timeout = answer timeout (dropped s) (λ u some. drops timeout refl refl)
   keeps lost = answer lost (dropped s) (λ u some. drops lost refl refl)
   keeps nexus = finish nexus refl

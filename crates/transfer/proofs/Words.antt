@@ -14,7 +14,7 @@ use Rattle.refusals.specs.Causes.{refuse}
 use Rattle.refusals.specs.declared.Refusal.{Refusal}
 use Rattle.refusals.proofs.Causes.{by-causes}
 use Rattle.transfer.specs.Rules.{endOf, before}
-use Rattle.transfer.specs.Steps.{unfinished, draining, started, frameLength, framed, resent, noneLeft, finished, answered, allSent, settled, drained, acked, naked, dropped}
+use Rattle.transfer.specs.Steps.{unfinished, draining, started, frameLength, framed, resent, noneLeft, finished, answered, allSent, settled, drained, acked, nacked, dropped}
 use Rattle.transfer.specs.Steps.{ended, refused, say, startCauses, frameCauses, answerCauses, endCauses, startStep, frameStep, ackStep, nakStep}
 use Rattle.transfer.specs.Steps.{dropStep, endStep}
 use Rattle.transfer.specs.Calls.{Call, start, frame, ack, nak, timeout, lost, nexus, cancel, stepOf, run}
@@ -46,8 +46,8 @@ module _ (bound : ℕ) (s : Transfer) where
       by-test (Asks s ack) (draining (s .phase)) (λ d. asks-drain ack refl)
       (λ d. by-test (Asks s ack) (eqb (s .unanswered - 1) 0) (λ t. by-test (Asks s ack) (allSent s) (λ q. refl) (λ q. refl)) (λ t. refl))
 
-  asks-nak : Asks s nak (naked (answered s))
-  unfolding naked
+  asks-nak : Asks s nak (nacked (answered s))
+  unfolding nacked
   asks-nak = by-test (Asks s nak) (leb (s .resends) (s .used)) (λ t. refl) (λ t. asks-drain nak refl)
 
   asks-drop : (c : Call) → askedBy c (askedOf s) ≡ askedOf s → Asks s c (dropped s)
@@ -59,7 +59,7 @@ module _ (bound : ℕ) (s : Transfer) where
   asks (start b n m r) = by-causes (Asks s (start b n m r)) (refused s) (λ k. refl) (startCauses bound b n m r s) (say Answer.Ok (started b n m r)) (λ off. refl)
   asks frame = by-causes (Asks s frame) (refused s) (λ k. refl) (frameCauses bound s) (framed (frameLength s) s) (λ off. refl)
   asks ack = by-causes (Asks s ack) (refused s) (λ k. refl) (answerCauses bound s) (acked (answered s)) (λ off. asks-ack)
-  asks nak = by-causes (Asks s nak) (refused s) (λ k. refl) (answerCauses bound s) (naked (answered s)) (λ off. asks-nak)
+  asks nak = by-causes (Asks s nak) (refused s) (λ k. refl) (answerCauses bound s) (nacked (answered s)) (λ off. asks-nak)
   asks timeout = by-causes (Asks s timeout) (refused s) (λ k. refl) (answerCauses bound s) (dropped s) (λ off. asks-drop timeout refl)
   asks lost = by-causes (Asks s lost) (refused s) (λ k. refl) (answerCauses bound s) (dropped s) (λ off. asks-drop lost refl)
   asks nexus = by-causes (Asks s nexus) (refused s) (λ k. refl) (endCauses bound s) (ended s) (λ off. refl)
@@ -196,8 +196,8 @@ module _ (bound : ℕ) (s : Transfer) (h : List Entry) (i : Inv bound s (view h)
     unfolding acked
     ack-word = by-test (Says ack) (draining (s .phase)) drain-word run-word
 
-    nak-tallies : Tallies s h nak (naked (answered s))
-    unfolding naked drained
+    nak-tallies : Tallies s h nak (nacked (answered s))
+    unfolding nacked drained
     nak-tallies =
         by-test (Tallies s h nak) (leb (s .resends) (s .used))
         (λ l. over refl (w .point))
@@ -213,8 +213,8 @@ module _ (bound : ℕ) (s : Transfer) (h : List Entry) (i : Inv bound s (view h)
           point = w .point;
         }))
 
-    nak-word : Says nak (naked (answered s))
-    unfolding naked drained
+    nak-word : Says nak (nacked (answered s))
+    unfolding nacked drained
     nak-word =
         by-test (Says nak) (leb (s .resends) (s .used)) (λ l. rw (sym (spent-is u) ∙ l))
         (λ l. by-test (Says nak) (eqb (s .unanswered - 1) 0) (λ t. rw (sym (spent-is u) ∙ l, sym due-is ∙ t)) (λ t. rw (sym (spent-is u) ∙ l, sym due-is ∙ t)))
@@ -244,7 +244,7 @@ module _ (bound : ℕ) (s : Transfer) (h : List Entry) (i : Inv bound s (view h)
       by-causes (Tallies s h frame) (refused s) (λ k. w) (frameCauses bound s) (framed (frameLength s) s)
       (λ off. record { used = w .used; ends = λ _. refl; point = w .point })
   tallies ack = answers (Tallies s h ack) (λ k. w) (acked (answered s)) ack-tallies
-  tallies nak = answers (Tallies s h nak) (λ k. w) (naked (answered s)) nak-tallies
+  tallies nak = answers (Tallies s h nak) (λ k. w) (nacked (answered s)) nak-tallies
   tallies timeout = answers (Tallies s h timeout) (λ k. w) (dropped s) (λ u some. drop-tallies u some timeout (over refl (w .point)) (again u some (timedOut ∷ h) refl tt (w .point)))
   tallies lost = answers (Tallies s h lost) (λ k. w) (dropped s) (λ u some. drop-tallies u some lost (over refl (w .point)) (again u some (wasLost ∷ h) refl tt (w .point)))
   tallies nexus = by-causes (Tallies s h nexus) (refused s) (λ k. w) (endCauses bound s) (ended s) (λ off. over refl (w .point))
@@ -262,7 +262,7 @@ module _ (bound : ℕ) (s : Transfer) (h : List Entry) (i : Inv bound s (view h)
   says (start b n m r) = by-causes (SaysTaken (start b n m r)) (refused s) (not-taken (start b n m r)) (startCauses bound b n m r s) (say Answer.Ok (started b n m r)) (λ off e. refl)
   says frame = by-causes (SaysTaken frame) (refused s) (not-taken frame) (frameCauses bound s) (framed (frameLength s) s) (λ off e. refl)
   says ack = answers (SaysTaken ack) (not-taken ack) (acked (answered s)) (λ u some e. ack-word u some)
-  says nak = answers (SaysTaken nak) (not-taken nak) (naked (answered s)) (λ u some e. nak-word u some)
+  says nak = answers (SaysTaken nak) (not-taken nak) (nacked (answered s)) (λ u some e. nak-word u some)
   says timeout = answers (SaysTaken timeout) (not-taken timeout) (dropped s) (λ u some e. drop-word u some)
   says lost = answers (SaysTaken lost) (not-taken lost) (dropped s) (λ u some e. drop-word u some)
   says nexus = by-causes (SaysTaken nexus) (refused s) (not-taken nexus) (endCauses bound s) (ended s) (λ off e. refl)
@@ -309,8 +309,8 @@ module _ (bound : ℕ) (s : Transfer) where
       by-test (Stays s) (draining (s .phase)) (λ d. stays-drain)
       (λ d. by-test (Stays s) (eqb (s .unanswered - 1) 0) (λ t. by-test (Stays s) (allSent s) (λ q e. (refl, refl)) (λ q. goes-on u)) (λ t. goes-on u))
 
-  stays-nak : Stays s (naked (answered s))
-  unfolding naked
+  stays-nak : Stays s (nacked (answered s))
+  unfolding nacked
   stays-nak = by-test (Stays s) (leb (s .resends) (s .used)) (λ t e. (refl, refl)) (λ t. stays-drain)
 
   stays-drop : Stays s (dropped s)
@@ -322,7 +322,7 @@ module _ (bound : ℕ) (s : Transfer) where
   stays (start b n m r) = by-causes (Stays s) (refused s) (λ k e. (refl, refl)) (startCauses bound b n m r s) (say Answer.Ok (started b n m r)) (λ off e. impossible (sym e))
   stays frame = by-causes (Stays s) (refused s) (λ k e. (refl, refl)) (frameCauses bound s) (framed (frameLength s) s) (λ off. goes-on (not-false _ (off .1 .0)))
   stays ack = by-causes (Stays s) (refused s) (λ k e. (refl, refl)) (answerCauses bound s) (acked (answered s)) (λ off. stays-ack (some-left s (off .1 .0) .0))
-  stays nak = by-causes (Stays s) (refused s) (λ k e. (refl, refl)) (answerCauses bound s) (naked (answered s)) (λ off. stays-nak)
+  stays nak = by-causes (Stays s) (refused s) (λ k e. (refl, refl)) (answerCauses bound s) (nacked (answered s)) (λ off. stays-nak)
   stays timeout = by-causes (Stays s) (refused s) (λ k e. (refl, refl)) (answerCauses bound s) (dropped s) (λ off. stays-drop)
   stays lost = by-causes (Stays s) (refused s) (λ k e. (refl, refl)) (answerCauses bound s) (dropped s) (λ off. stays-drop)
   stays nexus = by-causes (Stays s) (refused s) (λ k e. (refl, refl)) (endCauses bound s) (ended s) (λ off e. (refl, refl))

@@ -324,8 +324,8 @@ impl Transfer {
         }
     }
 
-    // The state in another phase.
-    fn told(self, answer: Answer, p: Phase) -> Stepped
+    // An answer, with the state in another phase.
+    fn in_phase(self, answer: Answer, p: Phase) -> Stepped
         ensures { λ a. ⌜ a ≡ say answer (inPhase p self) ⌝ }
     {
         Stepped {
@@ -353,7 +353,7 @@ impl Transfer {
         self.read = self.balance;
         self.sent = false;
         self.used = self.used + 1;
-        self.told(Answer::Retry, Phase::Run)
+        self.in_phase(Answer::Retry, Phase::Run)
     }
 
     // Whether every byte has been sent in this attempt.
@@ -371,7 +371,7 @@ impl Transfer {
         self.balance = self.read;
         if all {
             self.unanswered = 0;
-            return self.told(Answer::Done, Phase::Done);
+            return self.in_phase(Answer::Done, Phase::Done);
         }
         Stepped {
             answer: Answer::Ok,
@@ -387,7 +387,7 @@ impl Transfer {
         if self.unanswered == 0 {
             return self.resent();
         }
-        self.told(Answer::Drain, Phase::Drain)
+        self.in_phase(Answer::Drain, Phase::Drain)
     }
 
     // An ACK, its frame taken off.
@@ -409,12 +409,12 @@ impl Transfer {
     }
 
     // A NAK, its frame taken off.
-    fn naked(mut self) -> Stepped
-        ensures { λ a. ⌜ a ≡ steps.naked self ⌝ }
+    fn nacked(mut self) -> Stepped
+        ensures { λ a. ⌜ a ≡ steps.nacked self ⌝ }
     {
         if self.resends <= self.used {
             self.unanswered = 0;
-            return self.told(Answer::Fail, Phase::Fail);
+            return self.in_phase(Answer::Fail, Phase::Fail);
         }
         self.drained()
     }
@@ -438,7 +438,7 @@ impl Transfer {
         self.unanswered = 0;
         self.sent = false;
         self.used = 0;
-        self.told(Answer::Ok, Phase::Run)
+        self.in_phase(Answer::Ok, Phase::Run)
     }
 
     // What a frame is refused for.
@@ -525,7 +525,7 @@ impl Transfer {
             }
             Checked::Passed => {
                 self.unanswered = self.unanswered - 1;
-                return self.naked();
+                return self.nacked();
             }
         }
     }
@@ -541,7 +541,7 @@ impl Transfer {
             Checked::Passed => {
                 self.unanswered = 0;
                 if self.resends <= self.used {
-                    return self.told(Answer::Fail, Phase::Fail);
+                    return self.in_phase(Answer::Fail, Phase::Fail);
                 }
                 return self.resent();
             }
@@ -565,7 +565,7 @@ impl Transfer {
             return self.refused(Refusal::Unfit);
         }
         self.unanswered = 0;
-        self.told(Answer::End, Phase::End)
+        self.in_phase(Answer::End, Phase::End)
     }
 
     pub fn nexus(self) -> Stepped

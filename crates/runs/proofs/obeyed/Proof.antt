@@ -3,8 +3,8 @@
 use borrow.Author.Needs.{needs}
 use Rattle.transfer.specs.Calls.{stepOf}
 use Rattle.runs.specs.Commands.{obeyed}
-use Rattle.runs.proofs.obey.Statement.{statement}
-use Rattle.runs.proofs.obey.Tie as tie
+use Rattle.runs.proofs.obeyed.Statement.{statement}
+use Rattle.runs.proofs.obeyed.Tie as tie
 
 enum-known-c : tie.Need-enum-known-c
 enum-known-c c = search needs
@@ -96,8 +96,8 @@ returns-9 : tie.Need-returns-9
 unfolding obeyed stepOf
 returns-9 c = rw (c .refused .ensures, c .before .enum-told8 .given .1)
 
-pub obey-spec : {M : Type 1} → statement M
-obey-spec =
+pub obeyed-spec : {M : Type 1} → statement M
+obeyed-spec =
     tie.close
     (tie.spec
     enum-known-c

@@ -1,4 +1,4 @@
--- What the lines tell is what the transfer did: each line leaves the transfer and the tale in agreement, so that demand 3 of the one is
+-- A ledger of the lines has what the transfer did: each line leaves the transfer and the ledger in agreement, so that demand 3 of the one is
 -- demand 3 of the other. Assumes nothing.
 use Prim.Native.Nat.{ℕ, _+_, _-_}
 use mathlib.Core.Bool.{true}
@@ -12,7 +12,7 @@ use Rattle.refusals.proofs.Causes.{by-causes}
 use Rattle.refusals.specs.Causes.{refuse}
 use Rattle.refusals.specs.declared.Refusal.{Refusal}
 use Rattle.transfer.specs.Rules.{before}
-use Rattle.transfer.specs.Steps.{limit, unfinished, draining, say, refused, started, framed, frameLength, answered, allSent, settled, drained, acked, naked, dropped, ended}
+use Rattle.transfer.specs.Steps.{limit, unfinished, draining, say, refused, started, framed, frameLength, answered, allSent, settled, drained, acked, nacked, dropped, ended}
 use Rattle.transfer.specs.Steps.{startCauses, frameCauses, answerCauses, endCauses, startStep, frameStep, ackStep, nakStep, dropStep, endStep}
 use Rattle.transfer.specs.Calls.{Call, start, frame, ack, nak, timeout, lost, nexus, cancel, stepOf}
 use Rattle.transfer.specs.History.{Entry, sent, isRefused, entries, view, Covered}
@@ -25,11 +25,11 @@ use Rattle.transfer.proofs.Balance.{Inv, keeps, at-first}
 use Rattle.transfer.proofs.Demand.{demand, apart}
 use Rattle.lines.specs.Parts.{linesOf}
 use Rattle.runs.specs.Commands.{readLine, obeyed}
-use Rattle.runs.specs.Feed.{next}
+use Rattle.runs.specs.Feed.{nextLine}
 use Rattle.runs.specs.Rows.{row}
 use Rattle.runs.specs.Output.{rows, outputOf}
 use Rattle.runs.specs.Turns.{Turn, turnOf, turns, turnsOf, shownBytes, Read}
-use Rattle.runs.specs.Told.{Tale, untold, byStart, adds, asked, goesOn, tell, told, wordsFor, Holds, Leads}
+use Rattle.runs.specs.Ledger.{Ledger, blankLedger, byStart, adds, asked, goesOn, enter, entered, wordsFor, Holds, Leads}
 use Rattle.runs.proofs.Shown.{one-reading}
 use Rattle.runs.proofs.Words.{Has, said-word, nak-drains}
 use Rattle.runs.specs.declared.Command.{Command}
@@ -39,11 +39,11 @@ use Rattle.runs.specs.declared.Command.the-variants.{Start, Frame, Ack, 
 
 saying : (k : ℕ) (s : Transfer) (ls : List (List ℕ)) → map (λ (t : Turn). t .said) (turns k s ls) ≡ map readLine ls
 saying k s [] = refl
-saying k s (l ∷ ls) = ap (λ (cs : List Command). readLine l ∷ cs) (saying (next k) (obeyed (readLine l) s .state) ls)
+saying k s (l ∷ ls) = ap (λ (cs : List Command). readLine l ∷ cs) (saying (nextLine k) (obeyed (readLine l) s .state) ls)
 
 shown : (k : ℕ) (s : Transfer) (ls : List (List ℕ)) → shownBytes (turns k s ls) ≡ rows k s ls
 shown k s [] = refl
-shown k s (l ∷ ls) = ap (λ (b : List ℕ). row (next k) (obeyed (readLine l) s) ++ b) (shown (next k) (obeyed (readLine l) s .state) ls)
+shown k s (l ∷ ls) = ap (λ (b : List ℕ). row (nextLine k) (obeyed (readLine l) s) ++ b) (shown (nextLine k) (obeyed (readLine l) s .state) ls)
 
 -- a run is read
 pub read-out : (input : List ℕ) → Read input (turnsOf input)
@@ -77,8 +77,8 @@ module _ (bound : ℕ) (s : Transfer) where
       (λ t. by-test Stays (allSent s) (λ q. record { offset = refl; count = refl; going = refl }) (λ q. record { offset = refl; count = refl; going = sym u }))
       (λ t. record { offset = refl; count = refl; going = sym u }))
 
-  on-nak : Stays (naked (answered s))
-  unfolding naked
+  on-nak : Stays (nacked (answered s))
+  unfolding nacked
   on-nak = by-test Stays (leb (s .resends) (s .used)) (λ t. record { offset = refl; count = refl; going = refl }) (λ t. on-drain)
 
   on-drop : Stays (dropped s)
@@ -98,7 +98,7 @@ module _ (bound : ℕ) (s : Transfer) where
 
   stays-nak : Stays (nakStep bound s)
   unfolding nakStep
-  stays-nak = on-answer (naked (answered s)) (λ u. on-nak)
+  stays-nak = on-answer (nacked (answered s)) (λ u. on-nak)
 
   stays-drop : Stays (dropStep bound s)
   unfolding dropStep
@@ -108,9 +108,9 @@ module _ (bound : ℕ) (s : Transfer) where
   unfolding endStep
   stays-end = by-causes Stays (refused s) same (endCauses bound s) (ended s) (λ off. record { offset = refl; count = refl; going = refl })
 
--- ---- a line keeps the tale in agreement with the transfer
+-- ---- a line keeps the ledger in agreement with the transfer
 
-pub record Agree (s : Transfer) (w : Tale) : Type 0 where
+pub record Agree (s : Transfer) (w : Ledger) : Type 0 where
   pub offset : w .offset ≡ s .offset
   pub count : w .count ≡ s .count
   pub going : w .going ≡ unfinished (s .phase)
@@ -119,7 +119,7 @@ pub record Agree (s : Transfer) (w : Tale) : Type 0 where
   pub unanswered : w .unanswered ≡ s .unanswered
   pub sound : Inv limit s (view (w .history))
 
-pub holds : {s : Transfer} {w : Tale} → Agree s w → Holds w
+pub holds : {s : Transfer} {w : Ledger} → Agree s w → Holds w
 holds {s} {w} a =
     let d = demand limit s (w .history) (a .sound) frame in
     record {
@@ -132,11 +132,11 @@ holds {s} {w} a =
     }
 
 -- a line answered by st, and what it leaves
-pub record Step (k : ℕ) (c : Command) (st : Stepped) (w : Tale) : Type 0 where
-  pub agree : Agree (st .state) (tell w (turnOf k c st))
+pub record Step (k : ℕ) (c : Command) (st : Stepped) (w : Ledger) : Type 0 where
+  pub agree : Agree (st .state) (enter w (turnOf k c st))
   pub leads : Leads w (turnOf k c st)
 
-module _ (k : ℕ) (s : Transfer) (w : Tale) (a : Agree s w) where
+module _ (k : ℕ) (s : Transfer) (w : Ledger) (a : Agree s w) where
   -- of a command that is a call, where the line tells what the history has, and asks for what the transfer has
   calls-agree : (c : Command) (call : Call) →
       let st = stepOf limit call s in
@@ -204,43 +204,43 @@ module _ (k : ℕ) (s : Transfer) (w : Tale) (a : Agree s w) where
 
 -- ---- any place in a run
 
--- where the turns `past` have gone, and `rest` are to come, from the tale w on
-pub record Stands (w : Tale) (past rest : List Turn) : Type 0 where
+-- where the turns `past` have gone, and `rest` are to come, from the ledger w on
+pub record Stands (w : Ledger) (past rest : List Turn) : Type 0 where
   pub number : ℕ
   pub state : Transfer
   pub lines : List (List ℕ)
   pub are : rest ≡ turns number state lines
-  pub agree : Agree state (told w past)
+  pub agree : Agree state (entered w past)
 
-stand : (k : ℕ) (s : Transfer) (ls : List (List ℕ)) (w : Tale) → Agree s w → (past rest : List Turn) → turns k s ls ≡ past ++ rest → Stands w past rest
+stand : (k : ℕ) (s : Transfer) (ls : List (List ℕ)) (w : Ledger) → Agree s w → (past rest : List Turn) → turns k s ls ≡ past ++ rest → Stands w past rest
 stand k s ls w a [] rest e = record { number = k; state = s; lines = ls; are = sym e; agree = a }
 stand k s [] w a (t ∷ past) rest e = absurd (apart (cc))
 stand k s (l ∷ ls) w a (t ∷ past) rest e =
     let st = obeyed (readLine l) s in
     let this : turnOf k (readLine l) st ≡ t = cc in
-    let more : turns (next k) (st .state) ls ≡ past ++ rest = cc in
-    let after = subst (λ (u : Turn). Agree (st .state) (tell w u)) this (step k s w a (readLine l) .agree) in
-    let x = stand (next k) (st .state) ls (tell w t) after past rest more in
+    let more : turns (nextLine k) (st .state) ls ≡ past ++ rest = cc in
+    let after = subst (λ (u : Turn). Agree (st .state) (enter w u)) this (step k s w a (readLine l) .agree) in
+    let x = stand (nextLine k) (st .state) ls (enter w t) after past rest more in
     record { number = x .number; state = x .state; lines = x .lines; are = x .are; agree = x .agree }
 
-first-agree : Agree before untold
+first-agree : Agree before blankLedger
 first-agree = record { offset = refl; count = refl; going = refl; read = refl; balance = refl; unanswered = refl; sound = at-first limit }
 
 -- of any lines that are those of an input and of its output
 module _ (input : List ℕ) (past rest : List Turn) (r : Read input (past ++ rest)) where
-  stood : Stands untold past rest
-  stood = stand 0 before (linesOf input) untold first-agree past rest (one-reading (turnsOf input) (past ++ rest) (read-out input .said ∙ sym (r .said)) (read-out input .printed ∙ sym (r .printed)))
+  stood : Stands blankLedger past rest
+  stood = stand 0 before (linesOf input) blankLedger first-agree past rest (one-reading (turnsOf input) (past ++ rest) (read-out input .said ∙ sym (r .said)) (read-out input .printed ∙ sym (r .printed)))
 
-  -- DEMAND 3, of what they told at any place
-  pub told-holds : Holds (told untold past)
-  told-holds = holds (stood .agree)
+  -- DEMAND 3, of the ledger at any place
+  pub ledger-holds : Holds (entered blankLedger past)
+  ledger-holds = holds (stood .agree)
 
   -- and of the line that comes there
-  pub told-leads : (t : Turn) (more : List Turn) → rest ≡ t ∷ more → Leads (told untold past) t
-  told-leads t more e = by (stood .number) (stood .state) (stood .lines) (sym e ∙ stood .are) (stood .agree)
+  pub ledger-leads : (t : Turn) (more : List Turn) → rest ≡ t ∷ more → Leads (entered blankLedger past) t
+  ledger-leads t more e = by (stood .number) (stood .state) (stood .lines) (sym e ∙ stood .are) (stood .agree)
     where
-      by : (k : ℕ) (s : Transfer) (ls : List (List ℕ)) → t ∷ more ≡ turns k s ls → Agree s (told untold past) → Leads (told untold past) t
+      by : (k : ℕ) (s : Transfer) (ls : List (List ℕ)) → t ∷ more ≡ turns k s ls → Agree s (entered blankLedger past) → Leads (entered blankLedger past) t
       by k s [] q a = absurd (apart (cc))
       by k s (l ∷ ls) q a =
           let this : turnOf k (readLine l) (obeyed (readLine l) s) ≡ t = cc in
-          subst (Leads (told untold past)) this (step k s (told untold past) a (readLine l) .leads)
+          subst (Leads (entered blankLedger past)) this (step k s (entered blankLedger past) a (readLine l) .leads)

@@ -1,4 +1,4 @@
--- Document 01, 'Read transfer': what the lines of a run tell one who sees these alone: the request as it was typed, the columns of the
+-- Document 01, 'Read transfer': what one who sees the lines of a run alone can keep of them, as a ledger: the request as it was typed, the columns of the
 -- last line, and the history of frames and answers. A frame lies between the read offsets of two lines. No state is read here.
 -- Assumes nothing.
 use Prim.Native.Nat.{ℕ, _+_, _-_, _≤_, _<_}
@@ -7,13 +7,13 @@ use mathlib.Core.List.{List, [], _∷_, _++_}
 use mathlib.Core.Logic.{_⊎_}
 use mathlib.Core.Path.{_≡_}
 use lib.ListN.{length}
-use Rattle.transfer.specs.History.{Frame as Sent, Entry, started, sent, acked, naked, timedOut, wasLost, ended, isRefused, view, Covered}
+use Rattle.transfer.specs.History.{Frame as Sent, Entry, started, sent, acked, nacked, timedOut, wasLost, ended, isRefused, view, Covered}
 use Rattle.transfer.specs.declared.Answer.{Answer}
 use Rattle.runs.specs.Turns.{Turn}
 use Rattle.runs.specs.declared.Command.{Command}
 use Rattle.runs.specs.declared.Command.the-variants.{Start, Frame, Ack, Nak, Timeout, Lost, Nexus, Cancel, Bad}
 
-pub record Tale : Type 0 where
+pub record Ledger : Type 0 where
   -- B and N of the last START that was not refused
   pub offset : ℕ
   pub count : ℕ
@@ -27,8 +27,8 @@ pub record Tale : Type 0 where
   pub history : List Entry
 
 -- before any line
-abbrev pub untold : Tale
-untold = record { offset = 0; count = 0; going = false; read = 0; balance = 0; unanswered = 0; history = [] }
+abbrev pub blankLedger : Ledger
+blankLedger = record { offset = 0; count = 0; going = false; read = 0; balance = 0; unanswered = 0; history = [] }
 
 -- a START's B and N, or what was there
 abbrev pub byStart : {A : Type 0} → (ℕ → ℕ → A) → A → Command → A
@@ -42,17 +42,17 @@ byStart f a Nexus = a
 byStart f a Cancel = a
 byStart f a Bad = a
 
--- what a line tells that was not refused, where the read offset was `from` and is `to`
-abbrev pub entryTold : Command → ℕ → ℕ → List Entry
-entryTold (Start b n m r) from to = started ∷ []
-entryTold Frame from to = sent (record { at = from; len = to - from }) ∷ []
-entryTold Ack from to = acked ∷ []
-entryTold Nak from to = naked ∷ []
-entryTold Timeout from to = timedOut ∷ []
-entryTold Lost from to = wasLost ∷ []
-entryTold Nexus from to = ended ∷ []
-entryTold Cancel from to = ended ∷ []
-entryTold Bad from to = []
+-- the entry of a line that was not refused, where the read offset was `from` and is `to`
+abbrev pub entryShown : Command → ℕ → ℕ → List Entry
+entryShown (Start b n m r) from to = started ∷ []
+entryShown Frame from to = sent (record { at = from; len = to - from }) ∷ []
+entryShown Ack from to = acked ∷ []
+entryShown Nak from to = nacked ∷ []
+entryShown Timeout from to = timedOut ∷ []
+entryShown Lost from to = wasLost ∷ []
+entryShown Nexus from to = ended ∷ []
+entryShown Cancel from to = ended ∷ []
+entryShown Bad from to = []
 
 -- done, fail and end end a transfer; a refusal changes nothing
 abbrev pub goesOn : Answer → Bool → Bool
@@ -65,14 +65,14 @@ goesOn Answer.Fail going = false
 goesOn Answer.End going = false
 goesOn (Answer.Refused k) going = going
 
-abbrev pub adds : Tale → Turn → List Entry
-adds w t = cond (isRefused (t .shown .word)) [] (entryTold (t .said) (w .read) (t .shown .read))
+abbrev pub adds : Ledger → Turn → List Entry
+adds w t = cond (isRefused (t .shown .word)) [] (entryShown (t .said) (w .read) (t .shown .read))
 
 abbrev pub asked : (ℕ → ℕ → ℕ) → ℕ → Turn → ℕ
 asked which old t = cond (isRefused (t .shown .word)) old (byStart which old (t .said))
 
-abbrev pub tell : Tale → Turn → Tale
-tell w t = record {
+abbrev pub enter : Ledger → Turn → Ledger
+enter w t = record {
   offset = asked (λ b n. b) (w .offset) t;
   count = asked (λ b n. n) (w .count) t;
   going = goesOn (t .shown .word) (w .going);
@@ -82,10 +82,10 @@ tell w t = record {
   history = adds w t ++ w .history;
 }
 
--- what some turns tell, the first first
-abbrev pub told : Tale → List Turn → Tale
-told w [] = w
-told w (t ∷ ts) = told (tell w t) ts
+-- some turns entered, the first first
+abbrev pub entered : Ledger → List Turn → Ledger
+entered w [] = w
+entered w (t ∷ ts) = entered (enter w t) ts
 
 -- the words that a command may get, where it is not refused: an answer leaves frames to be answered or not, drains or not, and ends
 -- the transfer or not
@@ -116,8 +116,8 @@ isDrain (Answer.Refused k) = false
 
 -- ---- demand 3, sentence by sentence
 
--- of what was told
-pub record Holds (w : Tale) : Type 0 where
+-- of a ledger
+pub record Holds (w : Ledger) : Type 0 where
   -- "the balance point lies within the request;
   pub within : (w .offset ≤ w .balance) × (w .balance ≤ w .offset + w .count)
   -- every requested byte before it was in a frame whose ACK was reported, by the history of frames and answers;
@@ -131,7 +131,7 @@ pub record Holds (w : Tale) : Type 0 where
   pub over : w .going ≡ false → w .unanswered ≡ 0
 
 -- of the line that comes then
-pub record Leads (w : Tale) (t : Turn) : Type 0 where
+pub record Leads (w : Ledger) (t : Turn) : Type 0 where
   -- "each resend begins at the balance point;
   pub resend : (f : Sent) → adds w t ≡ sent f ∷ [] → view (w .history) .attempt ≡ [] → f .at ≡ w .balance
   -- "delivered" is answered only once every requested byte was ACKed;"

@@ -6,8 +6,8 @@ use native.Mathlib.Omega.{arith}
 use lib.ListN.{length}
 use Rattle.lines.specs.Parts.{placeFrom}
 use Rattle.lines.proofs.Parts.{found, passed, past}
-use Rattle.lines.proofs.find.Statement.{statement}
-use Rattle.lines.proofs.find.Tie as tie
+use Rattle.lines.proofs.place_from.Statement.{statement}
+use Rattle.lines.proofs.place_from.Tie as tie
 
 abbrev Inv-loop : tie.InvT-loop
 Inv-loop b s from i₀ i = placeFrom b s from ≡ placeFrom b s i
@@ -36,8 +36,8 @@ loop-again c = c .before .before .before .loop .inv ∙ passed (c .before .befor
 returns-2 : tie.Need-returns-2 Inv-loop μ-loop
 returns-2 c = sym (c .before .loop .inv ∙ past (c .before .before .args .b) (c .before .before .args .s .now) (c .before .loop .i) (c .loop-test .left))
 
-pub find-spec : {M : Type 1} → statement M
-find-spec =
+pub place-from-spec : {M : Type 1} → statement M
+place-from-spec =
     tie.close
     (tie.spec
     Inv-loop

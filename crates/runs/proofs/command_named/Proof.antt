@@ -1,8 +1,8 @@
--- `word` compares with the words of `named` in their order, so that each way out is a case of it. Assumes nothing.
+-- `command_named` compares with the words of `commandNamed` in their order, so that each way out is a case of it. Assumes nothing.
 use mathlib.Core.Path.{sym, _∙_}
 use borrow.Author.Needs.{needs}
-use Rattle.runs.proofs.word.Statement.{statement}
-use Rattle.runs.proofs.word.Tie as tie
+use Rattle.runs.proofs.command_named.Statement.{statement}
+use Rattle.runs.proofs.command_named.Tie as tie
 
 slice-aggregate-same : tie.Need-slice-aggregate-same
 slice-aggregate-same c = search needs
@@ -70,8 +70,8 @@ returns-7 c = rw (sym (c .before .before .before .before .before .before .before
 returns-8 : tie.Need-returns-8
 returns-8 c = rw (sym (c .before .before .before .before .before .before .before .before .before .before .before .before .before .before .before .before .before .before .before .same .ensures) ∙ c .before .before .before .before .before .before .before .before .before .before .before .before .before .before .before .before .before .before .if1 .left, sym (c .before .before .before .before .before .before .before .before .before .before .before .before .before .before .before .before .same2 .ensures) ∙ c .before .before .before .before .before .before .before .before .before .before .before .before .before .before .before .if2 .left, sym (c .before .before .before .before .before .before .before .before .before .before .before .before .before .same3 .ensures) ∙ c .before .before .before .before .before .before .before .before .before .before .before .before .if3 .left, sym (c .before .before .before .before .before .before .before .before .before .before .same4 .ensures) ∙ c .before .before .before .before .before .before .before .before .before .if4 .left, sym (c .before .before .before .before .before .before .before .same5 .ensures) ∙ c .before .before .before .before .before .before .if5 .left, sym (c .before .before .before .before .same6 .ensures) ∙ c .before .before .before .if6 .left, sym (c .before .same7 .ensures) ∙ c .if7 .left)
 
-pub word-spec : {M : Type 1} → statement M
-word-spec =
+pub command-named-spec : {M : Type 1} → statement M
+command-named-spec =
     tie.close
     (tie.spec
     slice-aggregate-same

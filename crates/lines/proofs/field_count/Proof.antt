@@ -6,8 +6,8 @@ use native.Mathlib.Omega.{arith}
 use lib.ListN.{length, drop}
 use Rattle.lines.specs.Parts.{fieldsOf}
 use Rattle.lines.proofs.Parts.{count-on, counted, within, too-long}
-use Rattle.lines.proofs.fields.Statement.{statement}
-use Rattle.lines.proofs.fields.Tie as tie
+use Rattle.lines.proofs.field_count.Statement.{statement}
+use Rattle.lines.proofs.field_count.Tie as tie
 
 abbrev Inv-loop : tie.InvT-loop
 Inv-loop s longest n₀ i₀ n i = (i ≤ length s) × (n ≤ i + 1) × (n + length (fieldsOf (drop i s)) ≡ length (fieldsOf s) + 1)
@@ -42,8 +42,8 @@ loop-again c = (omega arith, omega (arith, c .before .before .before .loop .inv 
 returns-2 : tie.Need-returns-2 Inv-loop μ-loop
 returns-2 c = counted (c .before .before .before .before .args .s .now) (c .before .loop .i) (c .before .loop .n) (c .loop-test .left) (c .before .loop .inv .2) ∙ sym (ap length (within (c .before .before .before .before .args .longest) (c .before .before .before .before .args .s .now) (c .before .before .if1 .left)))
 
-pub fields-spec : {M : Type 1} → statement M
-fields-spec =
+pub field-count-spec : {M : Type 1} → statement M
+field-count-spec =
     tie.close
     (tie.spec
     Inv-loop

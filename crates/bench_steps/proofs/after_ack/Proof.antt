@@ -1,8 +1,8 @@
 -- The state is the step's. Assumes nothing.
 use mathlib.Core.Path.{ap}
 use Rattle.transfer.specs.declared.Stepped.{Stepped}
-use Rattle.bench_steps.proofs.acked.Statement.{statement}
-use Rattle.bench_steps.proofs.acked.Tie as tie
+use Rattle.bench_steps.proofs.after_ack.Statement.{statement}
+use Rattle.bench_steps.proofs.after_ack.Tie as tie
 
 ack-requires : tie.Need-ack-requires
 ack-requires c κs = tt
@@ -10,5 +10,5 @@ ack-requires c κs = tt
 returns : tie.Need-returns
 returns c = ap (λ (st : Stepped). st .state) (c .before .ack .ensures)
 
-pub acked-spec : {M : Type 1} → statement M
-acked-spec = tie.close (tie.spec ack-requires returns)
+pub after-ack-spec : {M : Type 1} → statement M
+after-ack-spec = tie.close (tie.spec ack-requires returns)

@@ -6,8 +6,8 @@ use borrow.Author.Needs.{needs}
 use Rattle.lines.specs.Parts.{fieldAt}
 use Rattle.lines.proofs.Numbers.{written-read}
 use Rattle.runs.specs.Commands.{largest}
-use Rattle.runs.proofs.numbers.Statement.{statement}
-use Rattle.runs.proofs.numbers.Tie as tie
+use Rattle.runs.proofs.start_of.Statement.{statement}
+use Rattle.runs.proofs.start_of.Tie as tie
 
 number-requires : tie.Need-number-requires
 number-requires c κs = search needs
@@ -72,8 +72,8 @@ cast-t13 c = omega (arith, written-read largest (fieldAt (c .before .before .bef
 returns-5 : tie.Need-returns-5
 returns-5 c = rw (sym (c .before .before .before .before .before .before .before .before .before .before .before .before .before .before .before .number .ensures) ∙ c .before .before .before .before .before .before .before .before .before .before .before .before .before .offset .given .1, sym (c .before .before .before .before .before .before .before .before .before .before .before .number2 .ensures) ∙ c .before .before .before .before .before .before .before .before .before .count .given .1, sym (c .before .before .before .before .before .before .before .number3 .ensures) ∙ c .before .before .before .before .before .size .given .1, sym (c .before .before .before .number4 .ensures) ∙ c .before .resends .given .1)
 
-pub numbers-spec : {M : Type 1} → statement M
-numbers-spec =
+pub start-of-spec : {M : Type 1} → statement M
+start-of-spec =
     tie.close
     (tie.spec
     number-requires

@@ -1,8 +1,8 @@
 -- The state is the step's. Assumes nothing.
 use mathlib.Core.Path.{ap}
 use Rattle.transfer.specs.declared.Stepped.{Stepped}
-use Rattle.bench_steps.proofs.framed.Statement.{statement}
-use Rattle.bench_steps.proofs.framed.Tie as tie
+use Rattle.bench_steps.proofs.after_frame.Statement.{statement}
+use Rattle.bench_steps.proofs.after_frame.Tie as tie
 
 frame-requires : tie.Need-frame-requires
 frame-requires c κs = tt
@@ -10,5 +10,5 @@ frame-requires c κs = tt
 returns : tie.Need-returns
 returns c = ap (λ (st : Stepped). st .state) (c .before .frame .ensures)
 
-pub framed-spec : {M : Type 1} → statement M
-framed-spec = tie.close (tie.spec frame-requires returns)
+pub after-frame-spec : {M : Type 1} → statement M
+after-frame-spec = tie.close (tie.spec frame-requires returns)
