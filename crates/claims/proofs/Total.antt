@@ -13,16 +13,16 @@ use Rattle.wire.proofs.get_be.Kinds as get-be-of
 use Rattle.wire.proofs.get_be.Reads as get-be
 use Rattle.wire.proofs.put_be.Kinds as put-be-of
 use Rattle.wire.proofs.put_be.Reads as put-be
-use Rattle.open_frame.proofs.listed.Kinds as open-listed-of
-use Rattle.open_frame.proofs.listed.Reads as open-listed
+use Rattle.open_frame.proofs.head_listed.Kinds as head-listed-of
+use Rattle.open_frame.proofs.head_listed.Reads as head-listed
 use Rattle.open_frame.proofs.read_open.Kinds as read-open-of
 use Rattle.open_frame.proofs.read_open.Reads as read-open
 use Rattle.open_frame.proofs.write_open.Kinds as write-open-of
 use Rattle.open_frame.proofs.write_open.Reads as write-open
 use Rattle.open_frame.proofs.wait_value.Kinds as wait-value-of
 use Rattle.open_frame.proofs.wait_value.Reads as wait-value
-use Rattle.open_frame.proofs.higher.Kinds as higher-of
-use Rattle.open_frame.proofs.higher.Reads as higher
+use Rattle.open_frame.proofs.higher_than.Kinds as higher-than-of
+use Rattle.open_frame.proofs.higher_than.Reads as higher-than
 use Rattle.ssp_frame.proofs.data.data_listed.Kinds as data-listed-of
 use Rattle.ssp_frame.proofs.data.data_listed.Reads as data-listed
 use Rattle.ssp_frame.proofs.data.read_data.Kinds as read-data-of
@@ -222,11 +222,11 @@ pub record Total : Type 2 where
   pub answer : Anything 0 answer-of.ps answer.Pre
   pub get-be : Anything 1 get-be-of.ps get-be.Pre
   pub put-be : Anything 1 put-be-of.ps put-be.Pre
-  pub open-listed : Anything 0 open-listed-of.ps open-listed.Pre
+  pub head-listed : Anything 0 head-listed-of.ps head-listed.Pre
   pub read-open : Anything 1 read-open-of.ps read-open.Pre
   pub write-open : Anything 1 write-open-of.ps write-open.Pre
   pub wait-value : Anything 0 wait-value-of.ps wait-value.Pre
-  pub higher : Anything 0 higher-of.ps higher.Pre
+  pub higher-than : Anything 0 higher-than-of.ps higher-than.Pre
   pub data-listed : Anything 0 data-listed-of.ps data-listed.Pre
   pub read-data : Anything 1 read-data-of.ps read-data.Pre
   pub write-data : Anything 2 write-data-of.ps write-data.Pre
@@ -338,11 +338,11 @@ total = record {
   answer = λ κs a. tt;
   get-be = λ κs a. tt;
   put-be = λ κs a. tt;
-  open-listed = λ κs a. tt;
+  head-listed = λ κs a. tt;
   read-open = λ κs a. tt;
   write-open = λ κs a. tt;
   wait-value = λ κs a. tt;
-  higher = λ κs a. tt;
+  higher-than = λ κs a. tt;
   data-listed = λ κs a. tt;
   read-data = λ κs a. tt;
   write-data = λ κs a. tt;

@@ -19,16 +19,16 @@ use Rattle.wire.proofs.get_be.Kinds as get-be-of
 use Rattle.wire.proofs.get_be.Reads as get-be
 use Rattle.wire.proofs.put_be.Kinds as put-be-of
 use Rattle.wire.proofs.put_be.Reads as put-be
-use Rattle.open_frame.proofs.listed.Kinds as open-listed-of
-use Rattle.open_frame.proofs.listed.Reads as open-listed
+use Rattle.open_frame.proofs.head_listed.Kinds as head-listed-of
+use Rattle.open_frame.proofs.head_listed.Reads as head-listed
 use Rattle.open_frame.proofs.read_open.Kinds as read-open-of
 use Rattle.open_frame.proofs.read_open.Reads as read-open
 use Rattle.open_frame.proofs.write_open.Kinds as write-open-of
 use Rattle.open_frame.proofs.write_open.Reads as write-open
 use Rattle.open_frame.proofs.wait_value.Kinds as wait-value-of
 use Rattle.open_frame.proofs.wait_value.Reads as wait-value
-use Rattle.open_frame.proofs.higher.Kinds as higher-of
-use Rattle.open_frame.proofs.higher.Reads as higher
+use Rattle.open_frame.proofs.higher_than.Kinds as higher-than-of
+use Rattle.open_frame.proofs.higher_than.Reads as higher-than
 use Rattle.ssp_frame.proofs.data.data_listed.Kinds as data-listed-of
 use Rattle.ssp_frame.proofs.data.data_listed.Reads as data-listed
 use Rattle.ssp_frame.proofs.data.read_data.Kinds as read-data-of
@@ -286,11 +286,11 @@ pub record Unique : Type 2 where
   pub answer : One 0 answer-of.ps answer-of.r (none 0 answer-of.ps answer-of.r) answer.Post
   pub get-be : One 1 get-be-of.ps get-be-of.r (none 1 get-be-of.ps get-be-of.r) get-be.Post
   pub put-be : One 1 put-be-of.ps put-be-of.r put-be-left put-be.Post
-  pub open-listed : One 0 open-listed-of.ps open-listed-of.r (none 0 open-listed-of.ps open-listed-of.r) open-listed.Post
+  pub head-listed : One 0 head-listed-of.ps head-listed-of.r (none 0 head-listed-of.ps head-listed-of.r) head-listed.Post
   pub read-open : One 1 read-open-of.ps read-open-of.r (none 1 read-open-of.ps read-open-of.r) read-open.Post
   pub write-open : One 1 write-open-of.ps write-open-of.r write-open-left write-open.Post
   pub wait-value : One 0 wait-value-of.ps wait-value-of.r (none 0 wait-value-of.ps wait-value-of.r) wait-value.Post
-  pub higher : One 0 higher-of.ps higher-of.r (none 0 higher-of.ps higher-of.r) higher.Post
+  pub higher-than : One 0 higher-than-of.ps higher-than-of.r (none 0 higher-than-of.ps higher-than-of.r) higher-than.Post
   pub data-listed : One 0 data-listed-of.ps data-listed-of.r (none 0 data-listed-of.ps data-listed-of.r) data-listed.Post
   pub read-data : One 1 read-data-of.ps read-data-of.r (none 1 read-data-of.ps read-data-of.r) read-data.Post
   pub write-data : One 2 write-data-of.ps write-data-of.r write-data-left write-data.Post
@@ -402,11 +402,11 @@ unique = record {
   answer = λ κs a x y s t p q. (p ∙ sym q, refl);
   get-be = λ κs a x y s t p q. (p .number ∙ sym (q .number), refl);
   put-be = λ κs a x y s t p q. (refl, p ∙ sym q);
-  open-listed = λ κs a x y s t p q. (p ∙ sym q, refl);
+  head-listed = λ κs a x y s t p q. (p ∙ sym q, refl);
   read-open = λ κs a x y s t p q. (p ∙ sym q, refl);
   write-open = λ κs a x y s t p q. wrote-once p q;
   wait-value = λ κs a x y s t p q. (p ∙ sym q, refl);
-  higher = λ κs a x y s t p q. (p ∙ sym q, refl);
+  higher-than = λ κs a x y s t p q. (p ∙ sym q, refl);
   data-listed = λ κs a x y s t p q. (p ∙ sym q, refl);
   read-data = λ κs a x y s t p q. (p ∙ sym q, refl);
   write-data = λ κs a x y s t p q. wrote-once p q;

@@ -85,7 +85,7 @@ fn present_rule(r: Request, last: u64) -> bool
     ensures { λ a. ⌜ a ≡ presentRule r last ⌝ }
 {
     let h = r.head;
-    let fields = open_frame::listed(h);
+    let fields = open_frame::head_listed(h);
     flags_rule(r)
         & (fields
             & ((!(r.cancelled == 1) | (r.stage == 2))
