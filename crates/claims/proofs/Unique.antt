@@ -1,7 +1,7 @@
 -- Each promise is an equation for the answer and for every lent number and byte, so two outcomes that both meet it are equal.
 -- The promises are those generated from the sources. Assumes nothing.
 use Prim.Native.Nat.{ℕ}
-use mathlib.Core.List.{List}
+use mathlib.Core.List.{List, map}
 use mathlib.Core.Path.{_≡_, refl, sym, _∙_}
 use borrow.Fn.Kinds as kinds
 use contract.Lifetimes
@@ -9,7 +9,6 @@ use denote.Ref.{now}
 use denote.Triple.Clauses
 use Rattle.open_frame.specs.declared.OpenFrame.{OpenFrame}
 use Rattle.ssp_frame.specs.declared.data.DataFrame.{DataFrame}
-use Rattle.sonerwal.specs.Face.{open9, data6}
 use Rattle.refusals.proofs.Frames.{wrote-once}
 use Rattle.refusals.proofs.number.Kinds as number-of
 use Rattle.refusals.proofs.number.Reads as number
@@ -218,6 +217,7 @@ use Rattle.bench_ports.proofs.port_frame_status as port-frame-status
 use Rattle.bench_ports.proofs.port_closed as port-closed
 use Rattle.bench_ports.proofs.port_enable as port-enable
 use Rattle.bench_ports.proofs.port_disable as port-disable
+use Rattle.claims.proofs.Named.{behind3, behind9, first6, first9, open-of, data-of}
 use Rattle.claims.proofs.Walked.{OneEnd}
 use Rattle.claims.proofs.Ports.{ports}
 use Rattle.claims.proofs.Faces.{faces}
@@ -240,7 +240,7 @@ abbrev write-data-left : (κs : Lifetimes.Lfts 2) → Clauses.AtExit (kinds.ende
 write-data-left κs s = now (s .1 .1 .0)
 
 abbrev next-frame-left : (κs : Lifetimes.Lfts 2) → Clauses.AtExit (kinds.endedOf 2 next-frame-of.ps next-frame-of.r) κs → List ℕ
-next-frame-left κs s = now (s .1 .1 .1 .1 .1 .0)
+next-frame-left κs s = now (behind3 (s .1) .1 .0)
 
 abbrev put-byte-left : (κs : Lifetimes.Lfts 1) → Clauses.AtExit (kinds.endedOf 1 put-byte-of.ps put-byte-of.r) κs → List ℕ
 put-byte-left κs s = now (s .1 .0)
@@ -252,7 +252,7 @@ abbrev put-number-left : (κs : Lifetimes.Lfts 1) → Clauses.AtExit (kinds.ende
 put-number-left κs s = now (s .1 .0)
 
 abbrev take-line-left : (κs : Lifetimes.Lfts 2) → Clauses.AtExit (kinds.endedOf 2 take-line-of.ps take-line-of.r) κs → List ℕ
-take-line-left κs s = now (s .1 .1 .1 .0)
+take-line-left κs s = now (behind3 s .0)
 
 abbrev feed-left : (κs : Lifetimes.Lfts 2) → Clauses.AtExit (kinds.endedOf 2 feed-of.ps feed-of.r) κs → List ℕ
 feed-left κs s = now (s .1 .1 .0)
@@ -261,22 +261,22 @@ abbrev close-left : (κs : Lifetimes.Lfts 1) → Clauses.AtExit (kinds.endedOf 1
 close-left κs s = now (s .1 .0)
 
 abbrev sas-open-read-left : (κs : Lifetimes.Lfts 10) → Clauses.AtExit (kinds.endedOf 10 sas-open-read-of.ps sas-open-read-of.r) κs → OpenFrame
-sas-open-read-left κs s = open9 (now (s .1 .0)) (now (s .1 .1 .0)) (now (s .1 .1 .1 .0)) (now (s .1 .1 .1 .1 .0)) (now (s .1 .1 .1 .1 .1 .0)) (now (s .1 .1 .1 .1 .1 .1 .0)) (now (s .1 .1 .1 .1 .1 .1 .1 .0)) (now (s .1 .1 .1 .1 .1 .1 .1 .1 .0)) (now (s .1 .1 .1 .1 .1 .1 .1 .1 .1 .0))
+sas-open-read-left κs s = open-of (map now (first9 (s .1)))
 
 abbrev sas-open-write-left : (κs : Lifetimes.Lfts 1) → Clauses.AtExit (kinds.endedOf 1 sas-open-write-of.ps sas-open-write-of.r) κs → List ℕ
-sas-open-write-left κs s = now (s .1 .1 .1 .1 .1 .1 .1 .1 .1 .0)
+sas-open-write-left κs s = now (behind9 s .0)
 
 abbrev sas-data-read-left : (κs : Lifetimes.Lfts 7) → Clauses.AtExit (kinds.endedOf 7 sas-data-read-of.ps sas-data-read-of.r) κs → DataFrame
-sas-data-read-left κs s = data6 (now (s .1 .0)) (now (s .1 .1 .0)) (now (s .1 .1 .1 .0)) (now (s .1 .1 .1 .1 .0)) (now (s .1 .1 .1 .1 .1 .0)) (now (s .1 .1 .1 .1 .1 .1 .0))
+sas-data-read-left κs s = data-of (map now (first6 (s .1)))
 
 abbrev sas-data-write-left : (κs : Lifetimes.Lfts 2) → Clauses.AtExit (kinds.endedOf 2 sas-data-write-of.ps sas-data-write-of.r) κs → List ℕ
-sas-data-write-left κs s = now (s .1 .1 .1 .1 .1 .1 .0)
+sas-data-write-left κs s = now (behind3 (behind3 s) .0)
 
 abbrev bench-next-left : (κs : Lifetimes.Lfts 2) → Clauses.AtExit (kinds.endedOf 2 bench-next-of.ps bench-next-of.r) κs → List ℕ
-bench-next-left κs s = now (s .1 .1 .1 .1 .1 .1 .1 .1 .1 .0)
+bench-next-left κs s = now (behind9 s .0)
 
 abbrev bench-calls-left : (κs : Lifetimes.Lfts 3) → Clauses.AtExit (kinds.endedOf 3 bench-calls-of.ps bench-calls-of.r) κs → List ℕ
-bench-calls-left κs s = now (s .1 .1 .1 .1 .1 .1 .1 .1 .1 .0)
+bench-calls-left κs s = now (behind9 s .0)
 
 -- 01 PROMISE.1: Each public function's promise determines its answer, new state and each lent byte, on refusals too.
 -- 01 PROMISE.2: Prove that it admits no second answer; list exceptions in docs/ and why.
@@ -491,10 +491,10 @@ unique = record {
   call-closed = (_, (ports .call-closed, λ κs a x y s t p q. (p .0 ∙ sym (q .0), p .1 ∙ sym (q .1))));
   call-enable = (_, (ports .call-enable, λ κs a x y s t p q. (p .0 ∙ sym (q .0), p .1 ∙ sym (q .1))));
   call-disable = (_, (ports .call-disable, λ κs a x y s t p q. (p .0 ∙ sym (q .0), p .1 ∙ sym (q .1))));
-  sas-open-read = λ κs a x y s t p q. (p .answer ∙ sym (q .answer), p .lent ∙ sym (q .lent));
-  sas-open-write = λ κs a x y s t p q. (p .answer ∙ sym (q .answer), p .lent ∙ sym (q .lent));
-  sas-data-read = λ κs a x y s t p q. (p .answer ∙ sym (q .answer), p .lent ∙ sym (q .lent));
-  sas-data-write = λ κs a x y s t p q. (p .answer ∙ sym (q .answer), p .lent ∙ sym (q .lent));
+  sas-open-read = λ κs a x y s t p q. (p .answer ∙ sym (q .answer), p .leaves ∙ sym (q .leaves));
+  sas-open-write = λ κs a x y s t p q. (p .answer ∙ sym (q .answer), p .leaves ∙ sym (q .leaves));
+  sas-data-read = λ κs a x y s t p q. (p .answer ∙ sym (q .answer), p .leaves ∙ sym (q .leaves));
+  sas-data-write = λ κs a x y s t p q. (p .answer ∙ sym (q .answer), p .leaves ∙ sym (q .leaves));
   bench-frames = λ κs a x y s t p q. (p ∙ sym q, refl);
   bench-acks = λ κs a x y s t p q. (p ∙ sym q, refl);
   bench-turns = λ κs a x y s t p q. (p ∙ sym q, refl);
