@@ -59,7 +59,7 @@ pub struct Fed {
 }
 
 // The largest number that a line may have.
-const LARGEST: u64 = 4294967295;
+const LARGEST: u64 = 0xffffffff;
 
 // The longest line, LF not counted.
 const LONGEST: usize = 255;
@@ -261,7 +261,7 @@ pub fn take_line(line: u64, t: Transfer, s: &[u8], out: &mut [u8], at: usize) ->
 fn next_line(line: u64) -> u64
     ensures { λ r. ⌜ r ≡ nextLine line ⌝ }
 {
-    if line < 18446744073709551615 {
+    if line < 0xffffffffffffffff {
         return line + 1;
     }
     line
