@@ -21,7 +21,8 @@ use Rattle.transfer.specs.declared.Transfer.{Transfer}
 use Rattle.transfer.specs.declared.Stepped.{Stepped}
 use Rattle.transfer.specs.declared.Answer.{Answer}
 use Rattle.transfer.proofs.Calls.{some-left}
-use Rattle.transfer.proofs.Balance.{Inv, keeps, at-first}
+use Rattle.transfer.proofs.Invariant.{Inv}
+use Rattle.transfer.proofs.Balance.{keeps, at-first}
 use Rattle.transfer.proofs.Demand.{demand, apart}
 use Rattle.lines.specs.Parts.{linesOf}
 use Rattle.runs.specs.Commands.{readLine, obeyed}

@@ -17,7 +17,7 @@ use Rattle.transfer.specs.declared.Transfer.{Transfer}
 use Rattle.transfer.specs.declared.Stepped.{Stepped}
 use Rattle.transfer.specs.declared.Answer.{Answer}
 use Rattle.transfer.specs.declared.Phase.{Phase}
-use Rattle.transfer.proofs.Balance.{Live}
+use Rattle.transfer.proofs.Invariant.{Live}
 use Rattle.runs.specs.Commands.{obeyed}
 use Rattle.runs.specs.Ledger.{Among, wordsFor, isDrain}
 use Rattle.runs.specs.declared.Command.{Command}

@@ -13,7 +13,8 @@ use Rattle.transfer.specs.Demand.{Demand3}
 use Rattle.transfer.specs.History.{Entry, EntryOf, entries, view}
 use Rattle.transfer.specs.declared.Transfer.{Transfer}
 use Rattle.transfer.specs.declared.Stepped.{Stepped}
-use Rattle.transfer.proofs.Balance.{Inv, After, keeps, at-first}
+use Rattle.transfer.proofs.Invariant.{Inv}
+use Rattle.transfer.proofs.Balance.{After, keeps, at-first}
 use Rattle.transfer.proofs.Demand.{demand, demand-of, apart}
 use Rattle.send.specs.Send.{headOf, nextStep}
 use Rattle.send.specs.Calls.{Call, plain, next, stepOf, run, Typed, AllTyped}

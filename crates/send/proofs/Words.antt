@@ -18,11 +18,14 @@ use Rattle.transfer.specs.Words.{Asked, unasked, lastEnd, wordOf, wordBy}
 use Rattle.transfer.specs.declared.Transfer.{Transfer}
 use Rattle.transfer.specs.declared.Stepped.{Stepped}
 use Rattle.transfer.specs.declared.Answer.{Answer}
-use Rattle.transfer.proofs.Balance.{Inv, at-first}
+use Rattle.transfer.proofs.Invariant.{Inv}
+use Rattle.transfer.proofs.Balance.{at-first}
 use Rattle.transfer.proofs.Calls.{underway}
 use Rattle.transfer.proofs.Exact.{keeps-rules}
 use Rattle.transfer.proofs.Three.{none, unbroken, three}
-use Rattle.transfer.proofs.Words.{Asks, asks, Tally, tallied, says, read-is, Stays, stays}
+use Rattle.transfer.proofs.Asked.{Asks, asks}
+use Rattle.transfer.proofs.Words.{Tally, tallied, says, read-is}
+use Rattle.transfer.proofs.Finished.{Stays, stays}
 use Rattle.send.specs.Send.{headOf, nextCauses, nextStep}
 use Rattle.send.specs.Calls.{Call, plain, next, plainOf, stepOf, run, Typed, AllTyped}
 use Rattle.send.specs.History.{unwritten, entriesOf, history, frames, asked}

@@ -22,7 +22,8 @@ use Rattle.transfer.specs.declared.Answer.{Answer}
 use Rattle.transfer.specs.declared.Phase.{Phase}
 use Rattle.refusals.proofs.Causes.{by-causes}
 use Rattle.transfer.proofs.Calls.{run-phase, work}
-use Rattle.transfer.proofs.Balance.{Inv, Live, Over, Settled, onto, onto-length, running, settled-now, count, keeps, all-keep, at-first}
+use Rattle.transfer.proofs.Invariant.{Inv, Live, Over, Settled, onto, onto-length, running, settled-now, count}
+use Rattle.transfer.proofs.Balance.{keeps, all-keep, at-first}
 
 abbrev pub isDone : Answer → Bool
 isDone Answer.Ok = false

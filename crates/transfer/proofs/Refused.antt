@@ -27,7 +27,8 @@ use Rattle.transfer.specs.declared.Phase.{Phase}
 use Rattle.transfer.proofs.Facts.{PhaseRule}
 use Rattle.transfer.proofs.Calls.{run-phase, work, some-left}
 use Rattle.transfer.proofs.Calls as known
-use Rattle.transfer.proofs.Balance.{Inv, EndsAt, count, keeps, at-first}
+use Rattle.transfer.proofs.Invariant.{Inv, EndsAt, count}
+use Rattle.transfer.proofs.Balance.{keeps, at-first}
 use Rattle.transfer.proofs.Demand.{unsent}
 use Rattle.transfer.proofs.Refusals.{causesOf, goesOn, step-is, taken}
 use Rattle.transfer.proofs.Words.{Tally, tallies, nak-seen, spent-is, due-is, whole-is, at-start}
