@@ -452,7 +452,7 @@ static void sixteen(void)
 }
 
 /* What the last of some rounds of FRAME and NAK says, with r resends. */
-static uint8_t naked(uint32_t r, size_t rounds)
+static uint8_t nacked(uint32_t r, size_t rounds)
 {
 	uint8_t calls[2 * (MOST_RESENDS + 1)], body[1] = {0}, out[1] = {0};
 	for (size_t i = 0; i < 2 * rounds; i++) {
@@ -466,8 +466,8 @@ static void resends(void)
 {
 	unsigned long had = 0, ended = 0;
 	for (uint32_t r = 0; r <= MOST_RESENDS; r++) {
-		had += r == 0 || naked(r, r) == SAID_RETRY;
-		ended += naked(r, r + 1) == SAID_FAIL;
+		had += r == 0 || nacked(r, r) == SAID_RETRY;
+		ended += nacked(r, r + 1) == SAID_FAIL;
 	}
 	check(had == MOST_RESENDS + 1, "a resend that is allowed is not had");
 	check(ended == MOST_RESENDS + 1, "a transfer goes on past its resends, or fails before");

@@ -21,15 +21,15 @@ abbrev pub startedWith : ℕ → ℕ → ℕ → ℕ → Transfer
 startedWith b n m r = startWith b n m r .state
 
 -- a step that is refused leaves the state
-abbrev pub frameOf : Transfer → Transfer
-frameOf s = frameStep limit s .state
+abbrev pub afterFrame : Transfer → Transfer
+afterFrame s = frameStep limit s .state
 
-abbrev pub ackOf : Transfer → Transfer
-ackOf s = ackStep limit s .state
+abbrev pub afterAck : Transfer → Transfer
+afterAck s = ackStep limit s .state
 
--- a frame, and its ACK
-abbrev pub turnOf : Transfer → Transfer
-turnOf s = ackOf (frameOf s)
+-- after a frame, and its ACK
+abbrev pub afterTurn : Transfer → Transfer
+afterTurn s = afterAck (afterFrame s)
 
 -- what the last call answered and left, and the output after it
 pub record Said : Type 0 where
@@ -39,9 +39,9 @@ pub record Said : Type 0 where
 abbrev pub said : Stepped → List ℕ → Said
 said stepped out = record { stepped = stepped; out = out }
 
--- a next-frame call
-abbrev pub nextOf : ℕ → ℕ → ℕ → List ℕ → Said → Said
-nextOf destination source tag body w =
+-- after a next-frame call
+abbrev pub afterNext : ℕ → ℕ → ℕ → List ℕ → Said → Said
+afterNext destination source tag body w =
     let s = w .stepped .state in
     let h = headOf s destination source tag in
     said (nextStep limit s h body (w .out)) (nextBytes limit s h body (w .out))

@@ -1,36 +1,34 @@
 // What the bench measures, and the tests call besides: the steps of document 01, 'Read transfer', over and over from one START. C lends
 // no enum, so a state stays within a call.
 ghost use mathlib.Core.Path.{_≡_};
-ghost use Rattle.transfer.specs.Steps.{limit};
-ghost use Rattle.transfer.specs.Calls.{stepOf};
-ghost use Rattle.bench_steps.specs.Rounds.{times, startWith, startedWith, frameOf, ackOf, turnOf, said, nextOf, Did, Left};
-ghost use Rattle.bench_steps.specs.Calls.{plainOf, callOf, afterAll, spoken, Told};
+ghost use Rattle.bench_steps.specs.Rounds.{times, startWith, startedWith, afterFrame, afterAck, afterTurn, said, afterNext, Did, Left};
+ghost use Rattle.bench_steps.specs.Calls.{plainStep, afterCall, afterAll, answerNumber, Answered};
 use transfer::Answer;
 use transfer::Stepped;
 use transfer::Transfer;
 
-fn start(b: u32, n: u32, m: u32, r: u32) -> Stepped
+fn start_with(b: u32, n: u32, m: u32, r: u32) -> Stepped
     ensures { λ st. ⌜ st ≡ startWith b n m r ⌝ }
 {
     Transfer::unstarted().start(b, n, m, r)
 }
 
-fn started(b: u32, n: u32, m: u32, r: u32) -> Transfer
+fn started_with(b: u32, n: u32, m: u32, r: u32) -> Transfer
     ensures { λ s. ⌜ s ≡ startedWith b n m r ⌝ }
 {
-    let stepped = start(b, n, m, r);
+    let stepped = start_with(b, n, m, r);
     stepped.state
 }
 
-fn framed(s: Transfer) -> Transfer
-    ensures { λ a. ⌜ a ≡ frameOf s ⌝ }
+fn after_frame(s: Transfer) -> Transfer
+    ensures { λ a. ⌜ a ≡ afterFrame s ⌝ }
 {
     let stepped = s.frame();
     stepped.state
 }
 
-fn acked(s: Transfer) -> Transfer
-    ensures { λ a. ⌜ a ≡ ackOf s ⌝ }
+fn after_ack(s: Transfer) -> Transfer
+    ensures { λ a. ⌜ a ≡ afterAck s ⌝ }
 {
     let stepped = s.ack();
     stepped.state
@@ -38,11 +36,11 @@ fn acked(s: Transfer) -> Transfer
 
 // So many frames.
 fn all_framed(mut s: Transfer, rounds: u32) -> Transfer
-    ensures { λ a. ⌜ a ≡ times frameOf rounds s ⌝ }
+    ensures { λ a. ⌜ a ≡ times afterFrame rounds s ⌝ }
 {
     let mut i: u32 = 0;
     while i < rounds {
-        s = framed(s);
+        s = after_frame(s);
         i += 1;
     }
     s
@@ -50,11 +48,11 @@ fn all_framed(mut s: Transfer, rounds: u32) -> Transfer
 
 // So many ACKs.
 fn all_acked(mut s: Transfer, rounds: u32) -> Transfer
-    ensures { λ a. ⌜ a ≡ times ackOf rounds s ⌝ }
+    ensures { λ a. ⌜ a ≡ times afterAck rounds s ⌝ }
 {
     let mut i: u32 = 0;
     while i < rounds {
-        s = acked(s);
+        s = after_ack(s);
         i += 1;
     }
     s
@@ -71,7 +69,7 @@ fn all_next(
     body: &[u8],
     out: &mut [u8],
 ) -> Stepped
-    ensures { λ a. ⌜ Did (times (nextOf destination source tag (now (body .entry))) rounds (said first (now (out .entry)))) a (now (out .exit)) ⌝ }
+    ensures { λ a. ⌜ Did (times (afterNext destination source tag (now (body .entry))) rounds (said first (now (out .entry)))) a (now (out .exit)) ⌝ }
 {
     let mut last = first;
     let mut i: u32 = 0;
@@ -86,30 +84,30 @@ fn all_next(
 // START and frames; the read offset then.
 #[no_mangle]
 pub extern "C" fn bench_frames(b: u32, n: u32, m: u32, r: u32, sent: u32) -> u32
-    ensures { λ a. ⌜ a ≡ times frameOf sent (startedWith b n m r) .read ⌝ }
+    ensures { λ a. ⌜ a ≡ times afterFrame sent (startedWith b n m r) .read ⌝ }
 {
-    let s = all_framed(started(b, n, m, r), sent);
+    let s = all_framed(started_with(b, n, m, r), sent);
     s.read
 }
 
 // START, frames and then ACKs; the balance point then.
 #[no_mangle]
 pub extern "C" fn bench_acks(b: u32, n: u32, m: u32, r: u32, sent: u32, answered: u32) -> u32
-    ensures { λ a. ⌜ a ≡ times ackOf answered (times frameOf sent (startedWith b n m r)) .balance ⌝ }
+    ensures { λ a. ⌜ a ≡ times afterAck answered (times afterFrame sent (startedWith b n m r)) .balance ⌝ }
 {
-    let s = all_acked(all_framed(started(b, n, m, r), sent), answered);
+    let s = all_acked(all_framed(started_with(b, n, m, r), sent), answered);
     s.balance
 }
 
 // START and `rounds` frames with an ACK after each; the balance point then.
 #[no_mangle]
 pub extern "C" fn bench_turns(b: u32, n: u32, m: u32, r: u32, rounds: u32) -> u32
-    ensures { λ a. ⌜ a ≡ times turnOf rounds (startedWith b n m r) .balance ⌝ }
+    ensures { λ a. ⌜ a ≡ times afterTurn rounds (startedWith b n m r) .balance ⌝ }
 {
-    let mut s = started(b, n, m, r);
+    let mut s = started_with(b, n, m, r);
     let mut i: u32 = 0;
     while i < rounds {
-        s = acked(framed(s));
+        s = after_ack(after_frame(s));
         i += 1;
     }
     s.balance
@@ -129,10 +127,10 @@ pub extern "C" fn bench_next(
     body: &[u8],
     out: &mut [u8],
 ) -> u32
-    ensures { λ a. ⌜ Left (times (nextOf destination source tag (now (body .entry))) rounds (said (startWith b n m r) (now (out .entry)))) a (now (out .exit)) ⌝ }
+    ensures { λ a. ⌜ Left (times (afterNext destination source tag (now (body .entry))) rounds (said (startWith b n m r) (now (out .entry)))) a (now (out .exit)) ⌝ }
 {
     let last = all_next(
-        start(b, n, m, r),
+        start_with(b, n, m, r),
         rounds,
         destination,
         source,
@@ -144,8 +142,8 @@ pub extern "C" fn bench_next(
     s.read
 }
 
-fn plain(s: Transfer, call: u8) -> Stepped
-    ensures { λ a. ⌜ a ≡ stepOf limit (plainOf call) s ⌝ }
+fn plain_step(s: Transfer, call: u8) -> Stepped
+    ensures { λ a. ⌜ a ≡ plainStep call s ⌝ }
 {
     match call {
         0 => {
@@ -181,17 +179,17 @@ fn called(
     body: &[u8],
     out: &mut [u8],
 ) -> Stepped
-    ensures { λ a. ⌜ Did (callOf destination source tag (now (body .entry)) call (said last (now (out .entry)))) a (now (out .exit)) ⌝ }
+    ensures { λ a. ⌜ Did (afterCall destination source tag (now (body .entry)) call (said last (now (out .entry)))) a (now (out .exit)) ⌝ }
 {
     if call < 7 {
         let s = last.state;
-        return plain(s, call);
+        return plain_step(s, call);
     }
     all_next(last, 1, destination, source, tag, body, out)
 }
 
-fn number(a: Answer) -> u8
-    ensures { λ r. ⌜ r ≡ spoken a ⌝ }
+fn answer_number(a: Answer) -> u8
+    ensures { λ r. ⌜ r ≡ answerNumber a ⌝ }
 {
     match a {
         Answer::Ok => 11,
@@ -219,14 +217,14 @@ pub extern "C" fn bench_calls(
     body: &[u8],
     out: &mut [u8],
 ) -> u8
-    ensures { λ a. ⌜ Told (afterAll destination source tag (now (body .entry)) (now (calls .entry)) (said (startWith b n m r) (now (out .entry)))) a (now (out .exit)) ⌝ }
+    ensures { λ a. ⌜ Answered (afterAll destination source tag (now (body .entry)) (now (calls .entry)) (said (startWith b n m r) (now (out .entry)))) a (now (out .exit)) ⌝ }
 {
-    let mut last = start(b, n, m, r);
+    let mut last = start_with(b, n, m, r);
     let mut i = 0;
     while i < calls.len() {
         last = called(last, calls[i] % 8, destination, source, tag, body, out);
         i += 1;
     }
     let answer = last.answer;
-    number(answer)
+    answer_number(answer)
 }

@@ -18,7 +18,7 @@ use Rattle.transfer.specs.declared.Phase.{Phase}
 use Rattle.transfer.specs.Calls as plainly
 use Rattle.transfer.proofs.Stuck.{unstuck}
 use Rattle.send.specs.Calls.{Call, stepOf, run, Typed, AllTyped}
-use Rattle.send.specs.History.{Shot, outputOf, Addressed, shotsOf, history, frames, FromImage, AllFromImage, Shown}
+use Rattle.send.specs.History.{Sent, outputOf, Addressed, entriesOf, history, frames, FromImage, AllFromImage, Shown}
 use Rattle.send.proofs.Address.{addressed-by}
 use Rattle.send.proofs.Demand.{demand-3}
 use Rattle.send.proofs.Image.{delivered}
@@ -40,7 +40,7 @@ abbrev pub past : Run → List Entry
 past r = frames (history limit (r .calls) before [])
 
 abbrev pub added : Run → List Entry
-added r = frames (shotsOf limit (r .last) (now r))
+added r = frames (entriesOf limit (r .last) (now r))
 
 abbrev pub next : Run → Stepped
 next r = stepOf limit (r .last) (now r)
@@ -70,14 +70,14 @@ pub record Balance : Type 0 where
   pub all-done : (r : Run) → now r .phase ≡ Phase.Done → view (past r) .good ≡ view (past r) .attempt
   -- 01 DATA.1
   -- a frame's changing data pointer is one exactly if its attempt is a resend in which none went before it, by the history
-  pub changing : (r : Run) (f : Shot) → shotsOf limit (r .last) (now r) ≡ sent f ∷ [] → f .changing ≡ cond (firstResent (view (past r))) 1 0
+  pub changing : (r : Run) (f : Sent) → entriesOf limit (r .last) (now r) ≡ sent f ∷ [] → f .changing ≡ cond (firstResent (view (past r))) 1 0
   -- 01 DATA.1
   -- the DATA reader takes the frame that a next-frame call wrote to the front of its output, and finds in it the hashed destination, the
   -- hashed source and the tag that the call was given, and the read offset before the frame
   pub addressed : (r : Run) (destination source tag : ℕ) (body out : List ℕ) → r .last ≡ Call.next destination source tag body out → isRefused (next r .answer) ≡ false → Addressed (outputOf limit (r .last) (now r)) (length body) destination source tag (now r .read)
   -- what the depth computation lost: with the bytes of one image lent to each next-frame call at its offset, at "delivered" the
   -- payloads that the DATA reader finds in the ACKed frames' bytes cover the request, byte for byte of that image
-  pub image : (r : Run) (image : List ℕ) → AllFromImage image limit (r .calls) before → FromImage image (r .last) (now r) → next r .answer ≡ Answer.Done → (x : ℕ) → now r .offset ≤ x → x < endOf (now r) → Shown image x (view (shotsOf limit (r .last) (now r) ++ history limit (r .calls) before []) .acked)
+  pub image : (r : Run) (image : List ℕ) → AllFromImage image limit (r .calls) before → FromImage image (r .last) (now r) → next r .answer ≡ Answer.Done → (x : ℕ) → now r .offset ≤ x → x < endOf (now r) → Shown image x (view (entriesOf limit (r .last) (now r) ++ history limit (r .calls) before []) .acked)
   -- no stuck state: from every unfinished state some calls reach done
   pub unstuck : (s : Transfer) → plainly.Reachable limit s → unfinished (s .phase) ≡ true → plainly.Finishes limit s
   -- no endless sending: at most (R+1) times ⌈N/M⌉ frames go for one START

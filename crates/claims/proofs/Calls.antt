@@ -11,8 +11,8 @@ use Rattle.open_frame.proofs.write_open.Kinds as write-open-of
 use Rattle.open_frame.proofs.write_open.Reads as write-open
 use Rattle.open_frame.proofs.wait_value.Kinds as wait-value-of
 use Rattle.open_frame.proofs.wait_value.Reads as wait-value
-use Rattle.open_frame.proofs.higher.Kinds as higher-of
-use Rattle.open_frame.proofs.higher.Reads as higher
+use Rattle.open_frame.proofs.higher_than.Kinds as higher-than-of
+use Rattle.open_frame.proofs.higher_than.Reads as higher-than
 use Rattle.ssp_frame.proofs.data.read_data.Kinds as read-data-of
 use Rattle.ssp_frame.proofs.data.read_data.Reads as read-data
 use Rattle.ssp_frame.proofs.data.write_data.Kinds as write-data-of
@@ -77,8 +77,8 @@ WriteOpen = Outcome 1 write-open-of.ps write-open-of.r write-open.Post
 abbrev pub WaitValue : Type 0
 WaitValue = Outcome 0 wait-value-of.ps wait-value-of.r wait-value.Post
 
-abbrev pub Higher : Type 0
-Higher = Outcome 0 higher-of.ps higher-of.r higher.Post
+abbrev pub HigherThan : Type 0
+HigherThan = Outcome 0 higher-than-of.ps higher-than-of.r higher-than.Post
 
 abbrev pub ReadData : Type 0
 ReadData = Outcome 1 read-data-of.ps read-data-of.r read-data.Post

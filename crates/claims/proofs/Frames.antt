@@ -5,11 +5,10 @@ use mathlib.Core.Bool.{true}
 use mathlib.Core.List.{List, [], _∷_, _++_, append-nil}
 use mathlib.Core.Path.{_≡_, refl, sym, ap, _∙_, subst}
 use lib.Dec.{eqb}
-use lib.ListN.{length, getD, take, drop, drop-of-length-le}
+use lib.ListN.{length, take, drop, drop-of-length-le}
 use native.Mathlib.Omega.{arith}
 use lib.Seq.{take-at}
 use borrow.Author.Tests.{eq-eqb, le-leb}
-use denote.Ref.{now}
 use Rattle.refusals.specs.Causes.{Wrote}
 use Rattle.refusals.specs.declared.Written.{Written}
 use Rattle.refusals.specs.declared.Written.the-variants.{Done}
@@ -24,13 +23,14 @@ use Rattle.ssp_frame.specs.declared.data.DataFrame.{DataFrame}
 use Rattle.ssp_frame.specs.declared.data.DataRead.the-variants.{Frame as Data}
 use Rattle.ssp_frame.proofs.Fields.{Listed, fitting, is-fitting, listed-is, is-listed}
 use Rattle.ssp_frame.proofs.Trip.{read-written as data-back, written-read as data-forth, fits, frame-long, body-held}
-use Rattle.sonerwal.specs.Face.{Called, open9, data5}
+use Rattle.sonerwal.specs.Face.{DataGiven, OpenWrites, DataWrites}
 use Rattle.sonerwal.specs.Typed.{openNumbers, openTyped, dataNumbers, dataBody, dataTyped}
 use Rattle.sonerwal.proofs.Laid.{open-found, data-found, nine, six}
 use Rattle.sonerwal.proofs.Laid as laid
-use Rattle.sonerwal.proofs.Laws.{open-told, data-told, writes, done-writing, written}
+use Rattle.sonerwal.proofs.Laws.{open-finds, data-finds, writes, done-writing, written}
 use Rattle.claims.specs.Causes.{Bytes, Wide}
 use Rattle.claims.proofs.Calls.{ReadOpen, WriteOpen, ReadData, WriteData, SasOpenRead, SasOpenWrite, SasDataRead, SasDataWrite}
+use Rattle.claims.proofs.Named.{behind3, open-of, head-of, open-read, open-write, data-read, data-write, open-given, open-left, data-given, data-left, c-open-read, c-open-write, c-data-read, c-data-write}
 
 -- the round trips over the definitions, for any answer and bytes that a writer's promise admits
 module _ (f : OpenFrame) (before : List ℕ) {x : Written} {after : List ℕ} (w : Wrote (openWrites f before) (openBytes f) before x after) where
@@ -39,8 +39,8 @@ module _ (f : OpenFrame) (before : List ℕ) {x : Written} {after : List ℕ} (w
       let d = done-wrote (openBytes f) before (eqb (length before) 28) (headListed (f .head)) w e in
       ap readOpen (d .1 .1) ∙ open-back f (d .1 .0) typed
 
-  open-read : (s : List ℕ) → Bytes s → readOpen s ≡ Open f → length before ≡ 28 → (x ≡ Done) × (after ≡ cleared notCarried s)
-  open-read s small e long =
+  read-back : (s : List ℕ) → Bytes s → readOpen s ≡ Open f → length before ≡ 28 → (x ≡ Done) × (after ≡ cleared notCarried s)
+  read-back s small e long =
       let r = open-fits s f e in
       let listed : headListed (f .head) ≡ true = sym (ap (λ (g : OpenFrame). headListed (g .head)) (r .same)) ∙ r .listed in
       let d = wrote-is (openBytes f) before w (eq-eqb (length before) 28 long) listed in
@@ -55,8 +55,8 @@ module _ (h : DataHead) (body before : List ℕ) {x : Written} {after : List ℕ
       let front : take (frameEnd n) after ≡ dataBytes h body = ap (take (frameEnd n)) (d .1 .1) ∙ take-at (dataBytes h body) (drop (frameEnd n) before) (frameEnd n) (frame-long h body) in
       (ap readData front ∙ data-back h body (listed-is h (d .1 .0)) typed (fits .least) (fits .most), ap (λ (l : List ℕ). take n (drop 24 l)) front ∙ body-held h body)
 
-  data-read : (s : List ℕ) (f : DataFrame) → Bytes s → readData s ≡ Data f → h ≡ f .head → body ≡ take (f .length) (drop 24 s) → length before ≡ length s → (x ≡ Done) × (after ≡ s)
-  data-read s f small e eh eb el =
+  data-back-again : (s : List ℕ) (f : DataFrame) → Bytes s → readData s ≡ Data f → h ≡ f .head → body ≡ take (f .length) (drop 24 s) → length before ≡ length s → (x ≡ Done) × (after ≡ s)
+  data-back-again s f small e eh eb el =
       let ok = fits s f small e in
       let n : length body ≡ f .length = ap length eb ∙ ok .count in
       let end : frameEnd (length body) ≡ length before = ap frameEnd n ∙ ok .end ∙ sym el in
@@ -66,55 +66,6 @@ module _ (h : DataHead) (body before : List ℕ) {x : Written} {after : List ℕ
       let none : drop (frameEnd (length body)) before ≡ [] = drop-of-length-le before {i = frameEnd (length body)} (omega arith) in
       (d .0, d .1 ∙ ap (λ (l : List ℕ). dataBytes h body ++ l) none ∙ append-nil (dataBytes h body) ∙ (λ i. dataBytes (eh i) (eb i)) ∙ data-forth s f small e)
 
--- the numbers of a call from C, in the order of include/sonerwal.h: what a writer is given, and what a reader leaves
-abbrev open-given : SasOpenWrite → List ℕ
-open-given w =
-    w .args .0
-    ∷ w .args .1 .0
-    ∷ w .args .1 .1 .0
-    ∷ w .args .1 .1 .1 .0
-    ∷ w .args .1 .1 .1 .1 .0
-    ∷ w .args .1 .1 .1 .1 .1 .0
-    ∷ w .args .1 .1 .1 .1 .1 .1 .0
-    ∷ w .args .1 .1 .1 .1 .1 .1 .1 .0
-    ∷ w .args .1 .1 .1 .1 .1 .1 .1 .1 .0
-    ∷ []
-
-abbrev open-left : SasOpenRead → List ℕ
-open-left r =
-    now (r .exit .1 .0)
-    ∷ now (r .exit .1 .1 .0)
-    ∷ now (r .exit .1 .1 .1 .0)
-    ∷ now (r .exit .1 .1 .1 .1 .0)
-    ∷ now (r .exit .1 .1 .1 .1 .1 .0)
-    ∷ now (r .exit .1 .1 .1 .1 .1 .1 .0)
-    ∷ now (r .exit .1 .1 .1 .1 .1 .1 .1 .0)
-    ∷ now (r .exit .1 .1 .1 .1 .1 .1 .1 .1 .0)
-    ∷ now (r .exit .1 .1 .1 .1 .1 .1 .1 .1 .1 .0)
-    ∷ []
-
-abbrev data-given : SasDataWrite → List ℕ
-data-given w = w .args .0 ∷ w .args .1 .0 ∷ w .args .1 .1 .0 ∷ w .args .1 .1 .1 .0 ∷ w .args .1 .1 .1 .1 .0 ∷ []
-
-abbrev data-left : SasDataRead → List ℕ
-data-left r = now (r .exit .1 .0) ∷ now (r .exit .1 .1 .0) ∷ now (r .exit .1 .1 .1 .0) ∷ now (r .exit .1 .1 .1 .1 .0) ∷ now (r .exit .1 .1 .1 .1 .1 .0) ∷ now (r .exit .1 .1 .1 .1 .1 .1 .0) ∷ []
-
--- the bytes that a writer is lent, before and after
-abbrev open-lent : SasOpenWrite → List ℕ
-open-lent w = now (w .args .1 .1 .1 .1 .1 .1 .1 .1 .1 .0)
-
-abbrev open-bytes : SasOpenWrite → List ℕ
-open-bytes w = now (w .exit .1 .1 .1 .1 .1 .1 .1 .1 .1 .0)
-
-abbrev data-body : SasDataWrite → List ℕ
-data-body w = now (w .args .1 .1 .1 .1 .1 .0)
-
-abbrev data-lent : SasDataWrite → List ℕ
-data-lent w = now (w .args .1 .1 .1 .1 .1 .1 .0)
-
-abbrev data-bytes : SasDataWrite → List ℕ
-data-bytes w = now (w .exit .1 .1 .1 .1 .1 .1 .0)
-
 -- what is written is read back, and what was read is written back: OPEN but for the bytes that are not carried, DATA whole
 -- 01 OPEN.1 01 OPEN.5 01 DATA.1 01 DATA.2
 pub record Frames : Type 0 where
@@ -123,66 +74,63 @@ pub record Frames : Type 0 where
   pub open-laid : openBytes (record { head = record { initiator = 1; protocol = 2; features = 3; rate = 9; tag = 258; destination = 1161981756646125696; source = 9332165983064197000 }; pbc = record { 0 = 19 }; awt = record { 0 = 5141 } })
       ≡ openTyped
   pub data-laid : dataBytes (record { destination = 66051; source = 263430; changing = 1; tag = 1800; offset = 151653132 }) dataBody ≡ dataTyped
-  pub open-written-read : (w : WriteOpen) (r : ReadOpen) → w .answer ≡ Done → Widths (w .args .0) → now (r .args .0) ≡ now (w .exit .1 .0) → r .answer ≡ Open (w .args .0)
-  pub open-read-written : (r : ReadOpen) (w : WriteOpen) → Bytes (now (r .args .0)) → r .answer ≡ Open (w .args .0) → length (now (w .args .1 .0)) ≡ 28 → (w .answer ≡ Done) × (now (w .exit .1 .0) ≡ cleared notCarried (now (r .args .0)))
-  pub data-written-read : (w : WriteData) (r : ReadData) → let body = now (w .args .1 .0) in w .answer ≡ Done → Typed (w .args .0) → now (r .args .0) ≡ take (frameEnd (length body)) (now (w .exit .1 .1 .0)) → (r .answer ≡ Data (record { head = w .args .0; length = length body })) × (take (length body) (drop 24 (now (r .args .0))) ≡ body)
-  pub data-read-written : (r : ReadData) (w : WriteData) (f : DataFrame) → Bytes (now (r .args .0)) → r .answer ≡ Data f → w .args .0 ≡ f .head → now (w .args .1 .0) ≡ take (f .length) (drop 24 (now (r .args .0))) → length (now (w .args .1 .1 .0)) ≡ length (now (r .args .0)) → (w .answer ≡ Done) × (now (w .exit .1 .1 .0) ≡ now (r .args .0))
+  pub open-written-read : (c : WriteOpen) (d : ReadOpen) → let w = open-write c in let r = open-read d in w .answer ≡ Done → Widths (w .given) → r .frame ≡ w .left → r .answer ≡ Open (w .given)
+  pub open-read-written : (d : ReadOpen) (c : WriteOpen) → let r = open-read d in let w = open-write c in Bytes (r .frame) → r .answer ≡ Open (w .given) → length (w .lent) ≡ 28 → (w .answer ≡ Done) × (w .left ≡ cleared notCarried (r .frame))
+  pub data-written-read : (c : WriteData) (d : ReadData) → let w = data-write c in let r = data-read d in let n = length (w .given .body) in w .answer ≡ Done → Typed (w .given .head) → r .frame ≡ take (frameEnd n) (w .left) → (r .answer ≡ Data (record { head = w .given .head; length = n })) × (take n (drop 24 (r .frame)) ≡ w .given .body)
+  pub data-read-written : (d : ReadData) (c : WriteData) (f : DataFrame) → let r = data-read d in let w = data-write c in Bytes (r .frame) → r .answer ≡ Data f → w .given .head ≡ f .head → w .given .body ≡ take (f .length) (drop 24 (r .frame)) → length (w .lent) ≡ length (r .frame) → (w .answer ≡ Done) × (w .left ≡ r .frame)
   -- 01 DATA.5
   -- the same through C's calls, each number at its own place
-  pub c-open-laid : (w : SasOpenWrite) → open-given w ≡ openNumbers → length (open-lent w) ≡ 28 → (w .answer ≡ 0) × (open-bytes w ≡ openTyped)
-  pub c-open-found : (r : SasOpenRead) → now (r .args .0) ≡ openTyped → (r .answer ≡ 0) × (open-left r ≡ openNumbers)
-  pub c-data-laid : (w : SasDataWrite) → data-given w ≡ dataNumbers → data-body w ≡ dataBody → 32 ≤ length (data-lent w) → (w .answer ≡ 0) × (data-bytes w ≡ dataTyped ++ drop 32 (data-lent w))
-  pub c-data-found : (r : SasDataRead) → now (r .args .0) ≡ dataTyped → (r .answer ≡ 0) × (data-left r ≡ dataNumbers ++ (length dataBody ∷ []))
+  pub c-open-laid : (c : SasOpenWrite) → let w = c-open-write c in open-given c ≡ openNumbers → length (w .lent) ≡ 28 → (w .answer ≡ 0) × (w .left ≡ openTyped)
+  pub c-open-found : (c : SasOpenRead) → let r = c-open-read c in r .frame ≡ openTyped → (r .answer ≡ 0) × (open-left c ≡ openNumbers)
+  pub c-data-laid : (c : SasDataWrite) → let w = c-data-write c in data-given c ≡ dataNumbers → w .given .body ≡ dataBody → 32 ≤ length (w .lent) → (w .answer ≡ 0) × (w .left ≡ dataTyped ++ drop 32 (w .lent))
+  pub c-data-found : (c : SasDataRead) → let r = c-data-read c in r .frame ≡ dataTyped → (r .answer ≡ 0) × (data-left c ≡ dataNumbers ++ (length dataBody ∷ []))
   -- and each number that a writer was given is the one that the reader leaves at its place
-  pub c-open-back : (w : SasOpenWrite) (r : SasOpenRead) → Wide (1 ∷ 1 ∷ 1 ∷ 1 ∷ 2 ∷ 8 ∷ 8 ∷ 1 ∷ 2 ∷ []) (open-given w) → w .answer ≡ 0 → now (r .args .0) ≡ open-bytes w → (r .answer ≡ 0) × (open-left r ≡ open-given w)
-  pub c-data-back : (w : SasDataWrite) (r : SasDataRead) → let n = length (data-body w) in Wide (4 ∷ 4 ∷ 1 ∷ 2 ∷ 4 ∷ []) (data-given w) → w .answer ≡ 0 → now (r .args .0) ≡ take (24 + (n + 3) / 4 * 4) (data-bytes w) → (r .answer ≡ 0) × (data-left r ≡ data-given w ++ (n ∷ []))
+  pub c-open-back : (c : SasOpenWrite) (d : SasOpenRead) → let w = c-open-write c in let r = c-open-read d in Wide (1 ∷ 1 ∷ 1 ∷ 1 ∷ 2 ∷ 8 ∷ 8 ∷ 1 ∷ 2 ∷ []) (open-given c) → w .answer ≡ 0 → r .frame ≡ w .left → (r .answer ≡ 0) × (open-left d ≡ open-given c)
+  pub c-data-back : (c : SasDataWrite) (d : SasDataRead) → let w = c-data-write c in let r = c-data-read d in let n = length (w .given .body) in Wide (4 ∷ 4 ∷ 1 ∷ 2 ∷ 4 ∷ []) (data-given c) → w .answer ≡ 0 → r .frame ≡ take (24 + (n + 3) / 4 * 4) (w .left) → (r .answer ≡ 0) × (data-left d ≡ data-given c ++ (n ∷ []))
 
 -- ---- C's calls, for the numbers that they were given
 
--- the frame of nine numbers, and the head of five
-abbrev open-of : List ℕ → OpenFrame
-open-of ns = open9 (getD ns 0 0) (getD ns 1 0) (getD ns 2 0) (getD ns 3 0) (getD ns 4 0) (getD ns 5 0) (getD ns 6 0) (getD ns 7 0) (getD ns 8 0)
-
-abbrev data-of : List ℕ → DataHead
-data-of ns = data5 (getD ns 0 0) (getD ns 1 0) (getD ns 2 0) (getD ns 3 0) (getD ns 4 0)
-
 -- what the promises say of any numbers, they say of these
-open-wrote-these : (out after : List ℕ) (r : ℕ) (ns : List ℕ) → Called (openWrites (open-of ns) out) (openBytes (open-of ns)) out r after → ns ≡ openNumbers → length out ≡ 28 → (r ≡ 0) × (after ≡ openTyped)
-open-wrote-these out after r ns c e long =
-    let these = subst (λ (ms : List ℕ). Called (openWrites (open-of ms) out) (openBytes (open-of ms)) out r after) e c in
+open-wrote-these : (ns out left : List ℕ) (r : ℕ) → OpenWrites (record { given = open-of ns; lent = out; answer = r; left = left }) → ns ≡ openNumbers → length out ≡ 28 → (r ≡ 0) × (left ≡ openTyped)
+open-wrote-these ns out left r p e long =
+    let these = subst (λ (ms : List ℕ). OpenWrites (record { given = open-of ms; lent = out; answer = r; left = left })) e p in
     let d = written (openBytes (open-of openNumbers)) out these (eq-eqb (length out) 28 long) refl in
     (d .0, d .1 ∙ laid.open-laid)
 
-data-wrote-these : (body out after : List ℕ) (r : ℕ) (ns : List ℕ) → Called (dataWrites (data-of ns) body out) (dataLeft (data-of ns) body out) out r after → ns ≡ dataNumbers → body ≡ dataBody → 32 ≤ length out → (r ≡ 0) × (after ≡ dataTyped ++ drop 32 out)
-data-wrote-these body out after r ns c e eb long =
-    let these = subst (λ (p : List ℕ × List ℕ). Called (dataWrites (data-of (p .0)) (p .1) out) (dataLeft (data-of (p .0)) (p .1) out) out r after) (λ i. (e i, eb i)) c in
-    let d = written (dataLeft (data-of dataNumbers) dataBody out) out these (le-leb 32 (length out) long) refl in
+data-wrote-these : (ns body out left : List ℕ) (r : ℕ) → DataWrites (record { given = record { head = head-of ns; body = body }; lent = out; answer = r; left = left }) → ns ≡ dataNumbers → body ≡ dataBody → 32 ≤ length out → (r ≡ 0) × (left ≡ dataTyped ++ drop 32 out)
+data-wrote-these ns body out left r p e eb long =
+    let these = subst (λ (g : DataGiven). DataWrites (record { given = g; lent = out; answer = r; left = left })) (λ i. record { head = head-of (e i); body = eb i }) p in
+    let d = written (dataLeft (head-of dataNumbers) dataBody out) out these (le-leb 32 (length out) long) refl in
     (d .0, d .1 ∙ ap (λ (l : List ℕ). l ++ drop 32 out) laid.data-laid)
 
 pub frames : Frames
 frames = record {
   open-laid = refl;
   data-laid = refl;
-  open-written-read = λ w r e typed same. r .met ∙ ap readOpen same ∙ open-wrote (w .args .0) (now (w .args .1 .0)) (w .met) e typed;
-  open-read-written = λ r w small e long. open-read (w .args .0) (now (w .args .1 .0)) (w .met) (now (r .args .0)) small (sym (r .met) ∙ e) long;
-  data-written-read = λ w r e typed same.
-      let d = data-wrote (w .args .0) (now (w .args .1 .0)) (now (w .args .1 .1 .0)) (w .met) e typed in
-      (r .met ∙ ap readData same ∙ d .0, ap (λ (l : List ℕ). take (length (now (w .args .1 .0))) (drop 24 l)) same ∙ d .1);
-  data-read-written = λ r w f small e eh eb el. data-read (w .args .0) (now (w .args .1 .0)) (now (w .args .1 .1 .0)) (w .met) (now (r .args .0)) f small (sym (r .met) ∙ e) eh eb el;
-  c-open-laid = λ w e long. open-wrote-these (open-lent w) (open-bytes w) (w .answer) (open-given w) (w .met) e long;
-  c-open-found = λ r e. let t = open-told (now (r .args .0)) _ (ap readOpen e ∙ open-found) (r .met) in (t .0, ap nine (t .1));
-  c-data-laid = λ w e eb long. data-wrote-these (data-body w) (data-lent w) (data-bytes w) (w .answer) (data-given w) (w .met) e eb long;
-  c-data-found = λ r e. let t = data-told (now (r .args .0)) _ (ap readData e ∙ data-found) (r .met) in (t .0, ap six (t .1));
-  c-open-back = λ w r wide e same.
-      let f = open-of (open-given w) in
-      let widths : Widths f = record { tag = wide .1 .1 .1 .1 .0; destination = wide .1 .1 .1 .1 .1 .0; source = wide .1 .1 .1 .1 .1 .1 .0; pbc = wide .1 .1 .1 .1 .1 .1 .1 .0; awt = wide .1 .1 .1 .1 .1 .1 .1 .1 .0 } in
-      let t = open-told (now (r .args .0)) _ (ap readOpen same ∙ open-wrote f (open-lent w) (writes (w .met)) (done-writing (w .met) e) widths) (r .met) in
+  open-written-read = λ c d e typed same. let w = open-write c in d .met ∙ ap readOpen same ∙ open-wrote (w .given) (w .lent) (c .met) e typed;
+  open-read-written = λ d c small e long. let w = open-write c in read-back (w .given) (w .lent) (c .met) (open-read d .frame) small (sym (d .met) ∙ e) long;
+  data-written-read = λ c d e typed same.
+      let g = data-write c .given in
+      let t = data-wrote (g .head) (g .body) (data-write c .lent) (c .met) e typed in
+      (d .met ∙ ap readData same ∙ t .0, ap (λ (l : List ℕ). take (length (g .body)) (drop 24 l)) same ∙ t .1);
+  data-read-written = λ d c f small e eh eb el. let w = data-write c in data-back-again (w .given .head) (w .given .body) (w .lent) (c .met) (data-read d .frame) f small (sym (d .met) ∙ e) eh eb el;
+  c-open-laid = λ c e long. let w = c-open-write c in open-wrote-these (open-given c) (w .lent) (w .left) (w .answer) (c .met) e long;
+  c-open-found = λ c e. let t = open-finds (c-open-read c) (c .met) (ap readOpen e ∙ open-found) in (t .0, ap nine (t .1));
+  c-data-laid = λ c e eb long. let w = c-data-write c in data-wrote-these (data-given c) (w .given .body) (w .lent) (w .left) (w .answer) (c .met) e eb long;
+  c-data-found = λ c e. let t = data-finds (c-data-read c) (c .met) (ap readData e ∙ data-found) in (t .0, ap six (t .1));
+  c-open-back = λ c d wide e same.
+      let w = c-open-write c in
+      let f = w .given in
+      let long = behind3 wide .1 in
+      let widths : Widths f = record { tag = long .0; destination = long .1 .0; source = long .1 .1 .0; pbc = behind3 long .0; awt = behind3 long .1 .0 } in
+      let t = open-finds (c-open-read d) (d .met) (ap readOpen same ∙ open-wrote f (w .lent) (writes (c .met)) (done-writing (c .met) e) widths) in
       (t .0, ap nine (t .1));
-  c-data-back = λ w r wide e same.
-      let h = data-of (data-given w) in
-      let n = length (data-body w) in
+  c-data-back = λ c d wide e same.
+      let w = c-data-write c in
+      let n = length (w .given .body) in
       let end : 24 + (n + 3) / 4 * 4 ≡ frameEnd n = omega arith in
-      let d = data-wrote h (data-body w) (data-lent w) (writes (w .met)) (done-writing (w .met) e) (record { tag = wide .1 .1 .1 .0; offset = wide .1 .1 .1 .1 .0 }) in
-      let t = data-told (now (r .args .0)) _ (ap readData (same ∙ ap (λ (k : ℕ). take k (data-bytes w)) end) ∙ d .0) (r .met) in
-      (t .0, ap six (t .1));
+      let long = behind3 wide in
+      let t = data-wrote (w .given .head) (w .given .body) (w .lent) (writes (c .met)) (done-writing (c .met) e) (record { tag = long .0; offset = long .1 .0 }) in
+      let u = data-finds (c-data-read d) (d .met) (ap readData (same ∙ ap (λ (k : ℕ). take k (w .left)) end) ∙ t .0) in
+      (u .0, ap six (u .1));
 }

@@ -14,7 +14,7 @@ use Rattle.wire.proofs.Laws.{zero-bytes, bytes-zero}
 use Rattle.open_frame.specs.Open.{headOf, headListed, typed}
 use Rattle.open_frame.specs.declared.Head.{Head}
 use Rattle.open_frame.proofs.Fields as address
-use Rattle.ssp_frame.specs.Header.{headerOf, blank}
+use Rattle.ssp_frame.specs.Header.{headerOf, isBlank}
 use Rattle.ssp_frame.specs.Data.{frameEnd, dataSized, dataListed, frameSized, kindListed, filled}
 use Rattle.ssp_frame.specs.declared.data.DataHead.{DataHead}
 use Rattle.ssp_frame.proofs.Fields as ssp
@@ -87,12 +87,12 @@ data-length n = (there, back)
     back : DataLength n → frameSized n ≡ true
     back d = ssp.is-sized n (record { least = d .least; most = d .most; four = d .four })
 
-pub data-bytes : (s : List ℕ) → Bytes s → ((blank s && kindListed (headerOf s)) && filled s ≡ true) ↔ DataBytes s
+pub data-bytes : (s : List ℕ) → Bytes s → ((isBlank s && kindListed (headerOf s)) && filled s ≡ true) ↔ DataBytes s
 data-bytes s small = (there, back)
   where
-    there : (blank s && kindListed (headerOf s)) && filled s ≡ true → DataBytes s
+    there : (isBlank s && kindListed (headerOf s)) && filled s ≡ true → DataBytes s
     there e =
-        let l = ssp.laid s (and-left (blank s && kindListed (headerOf s)) _ e) in
+        let l = ssp.laid s (and-left (isBlank s && kindListed (headerOf s)) _ e) in
         record {
           kind = l .kind;
           byte4 = l .gap;
@@ -102,10 +102,10 @@ data-bytes s small = (there, back)
           bytes12-15 = zero-bytes s 12 4 (l .word);
           byte18 = omega (arith, l .ones, small 18, small 19);
           byte19 = omega (arith, l .ones, small 18, small 19);
-          fill = zero-bytes s _ _ (eqb-true _ 0 (and-right (blank s && kindListed (headerOf s)) _ e));
+          fill = zero-bytes s _ _ (eqb-true _ 0 (and-right (isBlank s && kindListed (headerOf s)) _ e));
         }
 
-    back : DataBytes s → (blank s && kindListed (headerOf s)) && filled s ≡ true
+    back : DataBytes s → (isBlank s && kindListed (headerOf s)) && filled s ≡ true
     back b = and-true (ssp.is-laid s (record {
       gap = b .byte4;
       pair = bytes-zero s 8 2 (b .bytes8-9);

@@ -8,6 +8,7 @@ pub mod Frames
 pub mod Leaving
 pub mod Links
 pub mod LinkRefusals
+mod Named
 mod Grounds
 pub mod Ports
 pub mod Printed

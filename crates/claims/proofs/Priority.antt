@@ -15,7 +15,7 @@ use Rattle.laws.proofs.Tests as tests
 use Rattle.open_frame.specs.Priority.{priorityOf, higherThan}
 use Rattle.open_frame.specs.declared.OpenFrame.{OpenFrame}
 use Rattle.open_frame.proofs.Priority.{never-both, trans, one-is, neither}
-use Rattle.claims.proofs.Calls.{Higher}
+use Rattle.claims.proofs.Calls.{HigherThan}
 
 -- AWT and source agree
 pub record Agree (f g : OpenFrame) : Type 0 where
@@ -27,28 +27,28 @@ abbrev Larger : OpenFrame → OpenFrame → Type 0
 Larger f g = (g .awt .0 < f .awt .0) ⊎ ((f .awt .0 ≡ g .awt .0) × (g .head .source < f .head .source))
 
 -- the two calls for two crossing OPENs
-abbrev Crossing : Higher → Higher → Type 0
+abbrev Crossing : HigherThan → HigherThan → Type 0
 Crossing c d = (c .args .0 ≡ d .args .1 .0) × (c .args .1 .0 ≡ d .args .0)
 
 -- 01 OPEN.9
 pub record Priority : Type 0 where
   -- in document 01's words
-  pub exactly : (c : Higher) → Says (c .answer) (Larger (c .args .0) (c .args .1 .0))
+  pub exactly : (c : HigherThan) → Says (c .answer) (Larger (c .args .0) (c .args .1 .0))
   -- of two crossing OPENs never both are of higher priority
-  pub never : (c d : Higher) → Crossing c d → c .answer ≡ true → d .answer ≡ true → ⊥
+  pub never : (c d : HigherThan) → Crossing c d → c .answer ≡ true → d .answer ≡ true → ⊥
   -- and exactly one is unless AWT and source agree
-  pub one : (c d : Higher) → Crossing c d → (Agree (c .args .0) (c .args .1 .0) → ⊥) → (c .answer ≡ true) ⊎ (d .answer ≡ true)
-  pub neither : (c : Higher) → Agree (c .args .0) (c .args .1 .0) → c .answer ≡ false
-  pub transitive : (c d e : Higher) → c .args .1 .0 ≡ d .args .0 → c .args .0 ≡ e .args .0 → d .args .1 .0 ≡ e .args .1 .0 → c .answer ≡ true → d .answer ≡ true → e .answer ≡ true
+  pub one : (c d : HigherThan) → Crossing c d → (Agree (c .args .0) (c .args .1 .0) → ⊥) → (c .answer ≡ true) ⊎ (d .answer ≡ true)
+  pub neither : (c : HigherThan) → Agree (c .args .0) (c .args .1 .0) → c .answer ≡ false
+  pub transitive : (c d e : HigherThan) → c .args .1 .0 ≡ d .args .0 → c .args .0 ≡ e .args .0 → d .args .1 .0 ≡ e .args .1 .0 → c .answer ≡ true → d .answer ≡ true → e .answer ≡ true
 
 -- the other call compares the same frames the other way round
-swapped : (c d : Higher) → Crossing c d → d .answer ≡ higherThan (c .args .1 .0) (c .args .0)
+swapped : (c d : HigherThan) → Crossing c d → d .answer ≡ higherThan (c .args .1 .0) (c .args .0)
 swapped c d e = d .met ∙ (λ i. higherThan (sym (e .1) i) (sym (e .0) i))
 
 agree : (f g : OpenFrame) → priorityOf f ≡ priorityOf g → Agree f g
 agree f g e = record { awt = ap (λ (l : List ℕ). getD l 0 0) e; source = ap (λ (l : List ℕ). getD l 1 0) e }
 
-one-of : (c d : Higher) → Crossing c d → (Agree (c .args .0) (c .args .1 .0) → ⊥) → Compared (priorityOf (c .args .0)) (priorityOf (c .args .1 .0)) → (c .answer ≡ true) ⊎ (d .answer ≡ true)
+one-of : (c d : HigherThan) → Crossing c d → (Agree (c .args .0) (c .args .1 .0) → ⊥) → Compared (priorityOf (c .args .0)) (priorityOf (c .args .1 .0)) → (c .answer ≡ true) ⊎ (d .answer ≡ true)
 one-of c d e off (above h) = inl (c .met ∙ h)
 one-of c d e off (below h) = inr (swapped c d e ∙ h)
 one-of c d e off (equal h) = absurd (off (agree (c .args .0) (c .args .1 .0) h))

@@ -7,7 +7,6 @@ use mathlib.Core.Logic.{_↔_}
 use mathlib.Core.Path.{_≡_, refl, sym, _∙_}
 use native.Mathlib.Omega.{arith}
 use lib.ListN.{length}
-use denote.Ref.{now}
 use Rattle.refusals.specs.Refusals.{numberOf}
 use Rattle.refusals.specs.Causes.{refuse, bufferCauses, Wrote}
 use Rattle.refusals.specs.declared.Refusal.{Refusal}
@@ -16,18 +15,18 @@ use Rattle.refusals.specs.declared.Written.the-variants.{Done, Refused as NotWr
 use Rattle.refusals.proofs.Causes.{only, if-first, none-held, if-none, stays}
 use Rattle.refusals.proofs.Frames.{frame-decides}
 use Rattle.refusals.proofs.Numbers.{one-number, range, not-zero}
-use Rattle.open_frame.specs.Open.{frameOf, openBytes, readOpen, readCauses as openReads, writeCauses as openWrites}
+use Rattle.open_frame.specs.Open.{frameOf, openBytes, readOpen, writeCauses as openWrites}
 use Rattle.open_frame.specs.declared.OpenFrame.{OpenFrame}
 use Rattle.open_frame.specs.declared.OpenRead.{OpenRead}
 use Rattle.open_frame.specs.declared.OpenRead.the-variants.{Frame as Open, Refused as NotOpen}
-use Rattle.ssp_frame.specs.Data.{dataLeft, dataOf, readData, readCauses as dataReads, writeCauses as dataWrites}
-use Rattle.ssp_frame.specs.declared.data.DataHead.{DataHead}
+use Rattle.ssp_frame.specs.Data.{dataLeft, dataOf, readData, writeCauses as dataWrites}
 use Rattle.ssp_frame.specs.declared.data.DataFrame.{DataFrame}
 use Rattle.ssp_frame.specs.declared.data.DataRead.{DataRead}
 use Rattle.ssp_frame.specs.declared.data.DataRead.the-variants.{Frame as Data, Refused as NotData}
-use Rattle.sonerwal.specs.Face.{Called, open9, data5, data6}
-use Rattle.claims.specs.Causes.{Bytes, OpenBytes, OpenFields, DataLengths, DataFields, DataLength, DataBytes, Answers}
+use Rattle.sonerwal.specs.Face.{Read, Write, DataGiven, OpenReads, OpenWrites, DataReads, DataWrites}
+use Rattle.claims.specs.Causes.{Answers, ReadsOpen, WritesOpen, ReadsData, WritesData}
 use Rattle.claims.proofs.Calls.{ReadOpen, WriteOpen, ReadData, WriteData, SasOpenRead, SasOpenWrite, SasDataRead, SasDataWrite}
+use Rattle.claims.proofs.Named.{open-read, open-write, data-read, data-write, c-open-read, c-open-write, c-data-read, c-data-write}
 use Rattle.claims.proofs.Grounds.{open-length, open-bytes, open-fields, data-lengths, data-fields, data-length, data-bytes}
 
 -- what two tests that decide two causes make of a call, where refusals are told apart from each other and from the other answer
@@ -60,55 +59,57 @@ done-apart : (k : Refusal) → Done ≡ NotWritten k → ⊥
 done-apart k e = let z : _≡_ {A = ℕ} 0 1 = cc in omega arith
 
 -- the readers' answers, by their definitions; they change nothing
-open-answers : (s : List ℕ) (x : OpenRead) → Bytes s → x ≡ readOpen s → Answers {L = Unit {0}} NotOpen (Open (frameOf s)) x (length s ≡ 28) (OpenBytes s) tt tt
+open-answers : (c : Read OpenRead (Unit {0})) → c .answer ≡ readOpen (c .frame) → ReadsOpen NotOpen (Open (frameOf (c .frame))) c
 unfolding readOpen
-open-answers s x small p = answers NotOpen (Open (frameOf s)) one-open (open-apart (frameOf s)) (open-length s) (open-bytes s small) tt tt p refl
+open-answers c p small = let s = c .frame in answers NotOpen (Open (frameOf s)) one-open (open-apart (frameOf s)) (open-length s) (open-bytes s small) tt tt p refl
 
-data-answers : (s : List ℕ) (x : DataRead) → Bytes s → x ≡ readData s → Answers {L = Unit {0}} NotData (Data (dataOf s)) x (DataLength (length s)) (DataBytes s) tt tt
+data-answers : (c : Read DataRead (Unit {0})) → c .answer ≡ readData (c .frame) → ReadsData NotData (Data (dataOf (c .frame))) c
 unfolding readData
-data-answers s x small p = answers NotData (Data (dataOf s)) one-data (data-apart (dataOf s)) (data-length (length s)) (data-bytes s small) tt tt p refl
+data-answers c p small = let s = c .frame in answers NotData (Data (dataOf s)) one-data (data-apart (dataOf s)) (data-length (length s)) (data-bytes s small) tt tt p refl
 
 -- the writers' answers and bytes, by what they promise
-open-writes : (f : OpenFrame) (out : List ℕ) {x : Written} {after : List ℕ} → Wrote (openWrites f out) (openBytes f) out x after → Answers NotWritten Done x (length out ≡ 28) (OpenFields (f .head)) out after
-open-writes f out p = answers NotWritten Done one-written done-apart (open-length out) (open-fields (f .head)) (openBytes f) out (p .answer) (p .bytes)
+open-writes : (c : Write Written OpenFrame) → Wrote (openWrites (c .given) (c .lent)) (openBytes (c .given)) (c .lent) (c .answer) (c .left) → WritesOpen NotWritten Done c
+open-writes c p = answers NotWritten Done one-written done-apart (open-length (c .lent)) (open-fields (c .given .head)) (openBytes (c .given)) (c .lent) (p .answer) (p .bytes)
 
-data-writes : (h : DataHead) (body out : List ℕ) {x : Written} {after : List ℕ} → Wrote (dataWrites h body out) (dataLeft h body out) out x after → Answers NotWritten Done x (DataLengths (length body) (length out)) (DataFields h) out after
-data-writes h body out p = answers NotWritten Done one-written done-apart (data-lengths (length body) (length out)) (data-fields h) (dataLeft h body out) out (p .answer) (p .bytes)
+data-writes : (c : Write Written DataGiven) → let g = c .given in Wrote (dataWrites (g .head) (g .body) (c .lent)) (dataLeft (g .head) (g .body) (c .lent)) (c .lent) (c .answer) (c .left) → WritesData NotWritten Done c
+data-writes c p = let g = c .given in answers NotWritten Done one-written done-apart (data-lengths (length (g .body)) (length (c .lent))) (data-fields (g .head)) (dataLeft (g .head) (g .body) (c .lent)) (c .lent) (p .answer) (p .bytes)
 
 -- what C sees of each, as numbers
-c-open-reads : (s : List ℕ) (before : OpenFrame) {x : ℕ} {after : OpenFrame} → Bytes s → Called (openReads s) (frameOf s) before x after → Answers numberOf 0 x (length s ≡ 28) (OpenBytes s) before after
-c-open-reads s before small p = answers numberOf 0 one-number not-zero (open-length s) (open-bytes s small) (frameOf s) before (p .answer) (p .lent)
+c-open-reads : (c : Read ℕ OpenFrame) → OpenReads c → ReadsOpen numberOf 0 c
+c-open-reads c p small = answers numberOf 0 one-number not-zero (open-length (c .frame)) (open-bytes (c .frame) small) (frameOf (c .frame)) (c .lent) (p .answer) (p .leaves)
 
-c-open-writes : (f : OpenFrame) (out : List ℕ) {x : ℕ} {after : List ℕ} → Called (openWrites f out) (openBytes f) out x after → Answers numberOf 0 x (length out ≡ 28) (OpenFields (f .head)) out after
-c-open-writes f out p = answers numberOf 0 one-number not-zero (open-length out) (open-fields (f .head)) (openBytes f) out (p .answer) (p .lent)
+c-open-writes : (c : Write ℕ OpenFrame) → OpenWrites c → WritesOpen numberOf 0 c
+c-open-writes c p = answers numberOf 0 one-number not-zero (open-length (c .lent)) (open-fields (c .given .head)) (openBytes (c .given)) (c .lent) (p .answer) (p .leaves)
 
-c-data-reads : (s : List ℕ) (before : DataFrame) {x : ℕ} {after : DataFrame} → Bytes s → Called (dataReads s) (dataOf s) before x after → Answers numberOf 0 x (DataLength (length s)) (DataBytes s) before after
-c-data-reads s before small p = answers numberOf 0 one-number not-zero (data-length (length s)) (data-bytes s small) (dataOf s) before (p .answer) (p .lent)
+c-data-reads : (c : Read ℕ DataFrame) → DataReads c → ReadsData numberOf 0 c
+c-data-reads c p small = answers numberOf 0 one-number not-zero (data-length (length (c .frame))) (data-bytes (c .frame) small) (dataOf (c .frame)) (c .lent) (p .answer) (p .leaves)
 
-c-data-writes : (h : DataHead) (body out : List ℕ) {x : ℕ} {after : List ℕ} → Called (dataWrites h body out) (dataLeft h body out) out x after → Answers numberOf 0 x (DataLengths (length body) (length out)) (DataFields h) out after
-c-data-writes h body out p = answers numberOf 0 one-number not-zero (data-lengths (length body) (length out)) (data-fields h) (dataLeft h body out) out (p .answer) (p .lent)
+c-data-writes : (c : Write ℕ DataGiven) → DataWrites c → WritesData numberOf 0 c
+c-data-writes c p = let g = c .given in answers numberOf 0 one-number not-zero (data-lengths (length (g .body)) (length (c .lent))) (data-fields (g .head)) (dataLeft (g .head) (g .body) (c .lent)) (c .lent) (p .answer) (p .leaves)
 
 -- 01 REFUSAL.11 01 REFUSAL.12
 pub record Refusals : Type 1 where
-  pub read-open : (c : ReadOpen) → Bytes (now (c .args .0)) → Answers {L = Unit {0}} NotOpen (Open (frameOf (now (c .args .0)))) (c .answer) (length (now (c .args .0)) ≡ 28) (OpenBytes (now (c .args .0))) tt tt
-  pub write-open : (c : WriteOpen) → Answers NotWritten Done (c .answer) (length (now (c .args .1 .0)) ≡ 28) (OpenFields (c .args .0 .head)) (now (c .args .1 .0)) (now (c .exit .1 .0))
-  pub read-data : (c : ReadData) → Bytes (now (c .args .0)) → Answers {L = Unit {0}} NotData (Data (dataOf (now (c .args .0)))) (c .answer) (DataLength (length (now (c .args .0)))) (DataBytes (now (c .args .0))) tt tt
-  pub write-data : (c : WriteData) → Answers NotWritten Done (c .answer) (DataLengths (length (now (c .args .1 .0))) (length (now (c .args .1 .1 .0)))) (DataFields (c .args .0)) (now (c .args .1 .1 .0)) (now (c .exit .1 .1 .0))
-  pub sas-open-read : (c : SasOpenRead) → Bytes (now (c .args .0)) → Answers numberOf 0 (c .answer) (length (now (c .args .0)) ≡ 28) (OpenBytes (now (c .args .0))) (open9 (now (c .args .1 .0)) (now (c .args .1 .1 .0)) (now (c .args .1 .1 .1 .0)) (now (c .args .1 .1 .1 .1 .0)) (now (c .args .1 .1 .1 .1 .1 .0)) (now (c .args .1 .1 .1 .1 .1 .1 .0)) (now (c .args .1 .1 .1 .1 .1 .1 .1 .0)) (now (c .args .1 .1 .1 .1 .1 .1 .1 .1 .0)) (now (c .args .1 .1 .1 .1 .1 .1 .1 .1 .1 .0))) (open9 (now (c .exit .1 .0)) (now (c .exit .1 .1 .0)) (now (c .exit .1 .1 .1 .0)) (now (c .exit .1 .1 .1 .1 .0)) (now (c .exit .1 .1 .1 .1 .1 .0)) (now (c .exit .1 .1 .1 .1 .1 .1 .0)) (now (c .exit .1 .1 .1 .1 .1 .1 .1 .0)) (now (c .exit .1 .1 .1 .1 .1 .1 .1 .1 .0)) (now (c .exit .1 .1 .1 .1 .1 .1 .1 .1 .1 .0)))
-  pub sas-open-write : (c : SasOpenWrite) → Answers numberOf 0 (c .answer) (length (now (c .args .1 .1 .1 .1 .1 .1 .1 .1 .1 .0)) ≡ 28) (OpenFields (open9 (c .args .0) (c .args .1 .0) (c .args .1 .1 .0) (c .args .1 .1 .1 .0) (c .args .1 .1 .1 .1 .0) (c .args .1 .1 .1 .1 .1 .0) (c .args .1 .1 .1 .1 .1 .1 .0) (c .args .1 .1 .1 .1 .1 .1 .1 .0) (c .args .1 .1 .1 .1 .1 .1 .1 .1 .0) .head)) (now (c .args .1 .1 .1 .1 .1 .1 .1 .1 .1 .0)) (now (c .exit .1 .1 .1 .1 .1 .1 .1 .1 .1 .0))
-  pub sas-data-read : (c : SasDataRead) → Bytes (now (c .args .0)) → Answers numberOf 0 (c .answer) (DataLength (length (now (c .args .0)))) (DataBytes (now (c .args .0))) (data6 (now (c .args .1 .0)) (now (c .args .1 .1 .0)) (now (c .args .1 .1 .1 .0)) (now (c .args .1 .1 .1 .1 .0)) (now (c .args .1 .1 .1 .1 .1 .0)) (now (c .args .1 .1 .1 .1 .1 .1 .0))) (data6 (now (c .exit .1 .0)) (now (c .exit .1 .1 .0)) (now (c .exit .1 .1 .1 .0)) (now (c .exit .1 .1 .1 .1 .0)) (now (c .exit .1 .1 .1 .1 .1 .0)) (now (c .exit .1 .1 .1 .1 .1 .1 .0)))
-  pub sas-data-write : (c : SasDataWrite) → Answers numberOf 0 (c .answer) (DataLengths (length (now (c .args .1 .1 .1 .1 .1 .0))) (length (now (c .args .1 .1 .1 .1 .1 .1 .0)))) (DataFields (data5 (c .args .0) (c .args .1 .0) (c .args .1 .1 .0) (c .args .1 .1 .1 .0) (c .args .1 .1 .1 .1 .0))) (now (c .args .1 .1 .1 .1 .1 .1 .0)) (now (c .exit .1 .1 .1 .1 .1 .1 .0))
+  -- what reads and writes frames answers and leaves: 1 for a wrong length, 2 for a field that is not listed, and else that it is done
+  pub read-open : (c : ReadOpen) → ReadsOpen NotOpen (Open (frameOf (open-read c .frame))) (open-read c)
+  pub write-open : (c : WriteOpen) → WritesOpen NotWritten Done (open-write c)
+  pub read-data : (c : ReadData) → ReadsData NotData (Data (dataOf (data-read c .frame))) (data-read c)
+  pub write-data : (c : WriteData) → WritesData NotWritten Done (data-write c)
+  -- the same of C's calls, which answer the refusal's number, or 0
+  pub sas-open-read : (c : SasOpenRead) → ReadsOpen numberOf 0 (c-open-read c)
+  pub sas-open-write : (c : SasOpenWrite) → WritesOpen numberOf 0 (c-open-write c)
+  pub sas-data-read : (c : SasDataRead) → ReadsData numberOf 0 (c-data-read c)
+  pub sas-data-write : (c : SasDataWrite) → WritesData numberOf 0 (c-data-write c)
 
 pub refusals : Refusals
 refusals = record {
-  read-open = λ c small. open-answers (now (c .args .0)) (c .answer) small (c .met);
-  write-open = λ c. open-writes (c .args .0) (now (c .args .1 .0)) (c .met);
-  read-data = λ c small. data-answers (now (c .args .0)) (c .answer) small (c .met);
-  write-data = λ c. data-writes (c .args .0) (now (c .args .1 .0)) (now (c .args .1 .1 .0)) (c .met);
-  sas-open-read = λ c small. c-open-reads (now (c .args .0)) (open9 (now (c .args .1 .0)) (now (c .args .1 .1 .0)) (now (c .args .1 .1 .1 .0)) (now (c .args .1 .1 .1 .1 .0)) (now (c .args .1 .1 .1 .1 .1 .0)) (now (c .args .1 .1 .1 .1 .1 .1 .0)) (now (c .args .1 .1 .1 .1 .1 .1 .1 .0)) (now (c .args .1 .1 .1 .1 .1 .1 .1 .1 .0)) (now (c .args .1 .1 .1 .1 .1 .1 .1 .1 .1 .0))) small (c .met);
-  sas-open-write = λ c. c-open-writes (open9 (c .args .0) (c .args .1 .0) (c .args .1 .1 .0) (c .args .1 .1 .1 .0) (c .args .1 .1 .1 .1 .0) (c .args .1 .1 .1 .1 .1 .0) (c .args .1 .1 .1 .1 .1 .1 .0) (c .args .1 .1 .1 .1 .1 .1 .1 .0) (c .args .1 .1 .1 .1 .1 .1 .1 .1 .0)) (now (c .args .1 .1 .1 .1 .1 .1 .1 .1 .1 .0)) (c .met);
-  sas-data-read = λ c small. c-data-reads (now (c .args .0)) (data6 (now (c .args .1 .0)) (now (c .args .1 .1 .0)) (now (c .args .1 .1 .1 .0)) (now (c .args .1 .1 .1 .1 .0)) (now (c .args .1 .1 .1 .1 .1 .0)) (now (c .args .1 .1 .1 .1 .1 .1 .0))) small (c .met);
-  sas-data-write = λ c. c-data-writes (data5 (c .args .0) (c .args .1 .0) (c .args .1 .1 .0) (c .args .1 .1 .1 .0) (c .args .1 .1 .1 .1 .0)) (now (c .args .1 .1 .1 .1 .1 .0)) (now (c .args .1 .1 .1 .1 .1 .1 .0)) (c .met);
+  read-open = λ c. open-answers (open-read c) (c .met);
+  write-open = λ c. open-writes (open-write c) (c .met);
+  read-data = λ c. data-answers (data-read c) (c .met);
+  write-data = λ c. data-writes (data-write c) (c .met);
+  sas-open-read = λ c. c-open-reads (c-open-read c) (c .met);
+  sas-open-write = λ c. c-open-writes (c-open-write c) (c .met);
+  sas-data-read = λ c. c-data-reads (c-data-read c) (c .met);
+  sas-data-write = λ c. c-data-writes (c-data-write c) (c .met);
 }
 
 -- 01 REFUSAL.1 01 REFUSAL.2 01 REFUSAL.3 01 REFUSAL.4 01 REFUSAL.5 01 REFUSAL.6 01 REFUSAL.7 01 REFUSAL.8 01 REFUSAL.9 01 REFUSAL.10

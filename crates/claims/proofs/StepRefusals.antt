@@ -7,7 +7,6 @@ use mathlib.Core.Logic.{_↔_}
 use mathlib.Core.Path.{_≡_, sym, ap, _∙_}
 use native.Mathlib.Omega.{arith}
 use lib.ListN.{length}
-use denote.Ref.{now}
 use Rattle.laws.proofs.Tests.{unless}
 use Rattle.refusals.specs.Causes.{Ground, _if_, refuse, First, Decides, nil, cons}
 use Rattle.refusals.specs.declared.Refusal.{Refusal}
@@ -22,9 +21,11 @@ use Rattle.transfer.specs.declared.Transfer.{Transfer}
 use Rattle.transfer.specs.declared.Stepped.{Stepped}
 use Rattle.transfer.specs.declared.Answer.{Answer}
 use Rattle.transfer.proofs.Refusals.{causesOf, decides, one, refused-exactly, refused-kept}
-use Rattle.send.specs.Send.{headOf, nextCauses, nextStep, nextBytes, Went}
+use Rattle.send.specs.Send.{nextCauses, nextStep, nextBytes, Went}
+use Rattle.sonerwal.specs.Face.{Write, DataGiven}
 use Rattle.claims.specs.Causes.{DataFields, NextLengths}
 use Rattle.claims.proofs.Calls.{NextFrame}
+use Rattle.claims.proofs.Named.{next-write}
 use Rattle.claims.proofs.Grounds.{data-fields, next-lengths}
 
 -- 01 REFUSAL.11
@@ -37,10 +38,10 @@ nextGrounds bound s h body out =
 sent-apart : (k : Refusal) → Answer.Sent ≡ Answer.Refused k → ⊥
 sent-apart k e = let z : _≡_ {A = ℕ} 0 1 = cc in omega arith
 
--- what a next-frame call answers, the state in its answer, and the output after it
-pub record Next (s : Transfer) (h : DataHead) (body out : List ℕ) (r : Stepped) (after : List ℕ) : Type 1 where
-  pub exactly : (k : Refusal) → (r .answer ≡ Answer.Refused k) ↔ First (nextGrounds limit s h body out) k
-  pub keeps : (k : Refusal) → r .answer ≡ Answer.Refused k → (r .state ≡ s) × (after ≡ out)
+-- what a next-frame call on s answers, the state in its answer, and the output after it
+pub record Next (s : Transfer) (c : Write Stepped DataGiven) : Type 1 where
+  pub exactly : (k : Refusal) → (c .answer .answer ≡ Answer.Refused k) ↔ First (nextGrounds limit s (c .given .head) (c .given .body) (c .lent)) k
+  pub keeps : (k : Refusal) → c .answer .answer ≡ Answer.Refused k → (c .answer .state ≡ s) × (c .left ≡ c .lent)
 
 module _ (s : Transfer) (h : DataHead) (body out : List ℕ) where
   next-decides : Decides (nextCauses limit s h body out) (nextGrounds limit s h body out)
@@ -61,7 +62,7 @@ module _ (s : Transfer) (h : DataHead) (body out : List ℕ) where
   unfolding nextBytes
   bytes-are = λ i. refuse (λ _. out) (nextCauses limit s h body out) (dataLeft h body out)
 
-  next-refused : {r : Stepped} {after : List ℕ} → Went limit s h body out r after → Next s h body out r after
+  next-refused : {r : Stepped} {after : List ℕ} → Went limit s h body out r after → Next s (record { given = record { head = h; body = body }; lent = out; answer = r; left = after })
   next-refused {r} {after} p =
       let answer : r .answer ≡ refuse Answer.Refused (nextCauses limit s h body out) Answer.Sent = ap (λ (st : Stepped). st .answer) (p .step) ∙ answer-is in
       record {
@@ -77,11 +78,11 @@ pub record StepRefusals : Type 1 where
   -- START to CANCEL: Steps shows that these are the methods' answers
   pub exactly : (s : Transfer) (c : Call) (k : Refusal) → (stepOf limit c s .answer ≡ Answer.Refused k) ↔ First (groundsOf limit c s) k
   pub keeps : (s : Transfer) (c : Call) → isRefused (stepOf limit c s .answer) ≡ true → stepOf limit c s .state ≡ s
-  pub next : (c : NextFrame) → Next (c .args .0) (headOf (c .args .0) (c .args .1 .0) (c .args .1 .1 .0) (c .args .1 .1 .1 .0)) (now (c .args .1 .1 .1 .1 .0)) (now (c .args .1 .1 .1 .1 .1 .0)) (c .answer) (now (c .exit .1 .1 .1 .1 .1 .0))
+  pub next : (c : NextFrame) → Next (c .args .0) (next-write c)
 
 pub step-refusals : StepRefusals
 step-refusals = record {
   exactly = λ s c k. refused-exactly limit (omega arith) s c k;
   keeps = λ s c. refused-kept limit s c;
-  next = λ c. next-refused (c .args .0) (headOf (c .args .0) (c .args .1 .0) (c .args .1 .1 .0) (c .args .1 .1 .1 .0)) (now (c .args .1 .1 .1 .1 .0)) (now (c .args .1 .1 .1 .1 .1 .0)) (c .met);
+  next = λ c. let w = next-write c in next-refused (c .args .0) (w .given .head) (w .given .body) (w .lent) (c .met);
 }

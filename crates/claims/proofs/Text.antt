@@ -23,7 +23,7 @@ use Rattle.transfer.specs.declared.Answer.{Answer}
 use Rattle.transfer.specs.declared.Transfer.{Transfer}
 use Rattle.runs.specs.Commands.{readLine, written, Writable, obeyed}
 use Rattle.runs.specs.Rows.{wordOf, rowOf, longestRow}
-use Rattle.runs.specs.Feed.{Carry, next, carryOf, runOf, fresh, after, said, takes, takenOf, closing, Feeds}
+use Rattle.runs.specs.Feed.{Carry, nextLine, carryOf, runOf, fresh, after, said, takes, takenOf, closing, Feeds}
 use Rattle.runs.specs.Output.{outputOf}
 use Rattle.runs.specs.Typed.{typedLines, typedCommands, typedCalls, otherLines, typedWords, typedAnswers, typedRow}
 use Rattle.runs.specs.declared.Command.{Command}
@@ -65,7 +65,7 @@ pub record Text : Type 0 where
   -- and it leaves something only where less room is left
   pub stops : (c : Feed) → c .answer .used < length (now (c .args .1 .0)) → length (now (c .args .1 .1 .0)) < c .answer .wrote + 71
   -- lines are numbered one by one, up to the last number of 64 bits
-  pub numbers : (n : ℕ) → n < 18446744073709551615 → next n ≡ n + 1
+  pub numbers : (n : ℕ) → n < 18446744073709551615 → nextLine n ≡ n + 1
   pub says : (s : List ℕ) (c : Command) → (c ≡ Bad → ⊥) → readLine s ≡ c → s ≡ written c
   pub said : (c : Command) → Writable c → readLine (written c) ≡ c
   pub reads : (c : ReadNumber) (n : ℕ) → now (c .args .0) ≡ decimal n → n ≤ c .args .1 .0 → c .answer ≡ Value n

@@ -13,18 +13,18 @@ use Rattle.wire.proofs.get_be.Kinds as get-be-of
 use Rattle.wire.proofs.get_be.Reads as get-be
 use Rattle.wire.proofs.put_be.Kinds as put-be-of
 use Rattle.wire.proofs.put_be.Reads as put-be
-use Rattle.open_frame.proofs.listed.Kinds as open-listed-of
-use Rattle.open_frame.proofs.listed.Reads as open-listed
+use Rattle.open_frame.proofs.head_listed.Kinds as head-listed-of
+use Rattle.open_frame.proofs.head_listed.Reads as head-listed
 use Rattle.open_frame.proofs.read_open.Kinds as read-open-of
 use Rattle.open_frame.proofs.read_open.Reads as read-open
 use Rattle.open_frame.proofs.write_open.Kinds as write-open-of
 use Rattle.open_frame.proofs.write_open.Reads as write-open
 use Rattle.open_frame.proofs.wait_value.Kinds as wait-value-of
 use Rattle.open_frame.proofs.wait_value.Reads as wait-value
-use Rattle.open_frame.proofs.higher.Kinds as higher-of
-use Rattle.open_frame.proofs.higher.Reads as higher
-use Rattle.ssp_frame.proofs.data.listed.Kinds as data-listed-of
-use Rattle.ssp_frame.proofs.data.listed.Reads as data-listed
+use Rattle.open_frame.proofs.higher_than.Kinds as higher-than-of
+use Rattle.open_frame.proofs.higher_than.Reads as higher-than
+use Rattle.ssp_frame.proofs.data.data_listed.Kinds as data-listed-of
+use Rattle.ssp_frame.proofs.data.data_listed.Reads as data-listed
 use Rattle.ssp_frame.proofs.data.read_data.Kinds as read-data-of
 use Rattle.ssp_frame.proofs.data.read_data.Reads as read-data
 use Rattle.ssp_frame.proofs.data.write_data.Kinds as write-data-of
@@ -57,12 +57,12 @@ use Rattle.send.proofs.next_frame.Kinds as next-frame-of
 use Rattle.send.proofs.next_frame.Reads as next-frame
 use Rattle.lines.proofs.read_number.Kinds as read-number-of
 use Rattle.lines.proofs.read_number.Reads as read-number
-use Rattle.lines.proofs.find.Kinds as find-of
-use Rattle.lines.proofs.find.Reads as find
-use Rattle.lines.proofs.fields.Kinds as fields-of
-use Rattle.lines.proofs.fields.Reads as fields
-use Rattle.lines.proofs.field.Kinds as field-of
-use Rattle.lines.proofs.field.Reads as field
+use Rattle.lines.proofs.place_from.Kinds as place-from-of
+use Rattle.lines.proofs.place_from.Reads as place-from
+use Rattle.lines.proofs.field_count.Kinds as field-count-of
+use Rattle.lines.proofs.field_count.Reads as field-count
+use Rattle.lines.proofs.field_at.Kinds as field-at-of
+use Rattle.lines.proofs.field_at.Reads as field-at
 use Rattle.lines.proofs.same.Kinds as same-of
 use Rattle.lines.proofs.same.Reads as same
 use Rattle.lines.proofs.put_byte.Kinds as put-byte-of
@@ -222,11 +222,11 @@ pub record Total : Type 2 where
   pub answer : Anything 0 answer-of.ps answer.Pre
   pub get-be : Anything 1 get-be-of.ps get-be.Pre
   pub put-be : Anything 1 put-be-of.ps put-be.Pre
-  pub open-listed : Anything 0 open-listed-of.ps open-listed.Pre
+  pub head-listed : Anything 0 head-listed-of.ps head-listed.Pre
   pub read-open : Anything 1 read-open-of.ps read-open.Pre
   pub write-open : Anything 1 write-open-of.ps write-open.Pre
   pub wait-value : Anything 0 wait-value-of.ps wait-value.Pre
-  pub higher : Anything 0 higher-of.ps higher.Pre
+  pub higher-than : Anything 0 higher-than-of.ps higher-than.Pre
   pub data-listed : Anything 0 data-listed-of.ps data-listed.Pre
   pub read-data : Anything 1 read-data-of.ps read-data.Pre
   pub write-data : Anything 2 write-data-of.ps write-data.Pre
@@ -244,9 +244,9 @@ pub record Total : Type 2 where
   pub cancel : Anything 0 cancel-of.ps cancel.Pre
   pub next-frame : Anything 2 next-frame-of.ps next-frame.Pre
   pub read-number : Anything 1 read-number-of.ps read-number.Pre
-  pub find : Anything 1 find-of.ps find.Pre
-  pub fields : Anything 1 fields-of.ps fields.Pre
-  pub field : Anything 1 field-of.ps field.Pre
+  pub place-from : Anything 1 place-from-of.ps place-from.Pre
+  pub field-count : Anything 1 field-count-of.ps field-count.Pre
+  pub field-at : Anything 1 field-at-of.ps field-at.Pre
   pub same : Anything 2 same-of.ps same.Pre
   pub put-byte : Anything 1 put-byte-of.ps put-byte.Pre
   pub put-bytes : Anything 2 put-bytes-of.ps put-bytes.Pre
@@ -338,11 +338,11 @@ total = record {
   answer = λ κs a. tt;
   get-be = λ κs a. tt;
   put-be = λ κs a. tt;
-  open-listed = λ κs a. tt;
+  head-listed = λ κs a. tt;
   read-open = λ κs a. tt;
   write-open = λ κs a. tt;
   wait-value = λ κs a. tt;
-  higher = λ κs a. tt;
+  higher-than = λ κs a. tt;
   data-listed = λ κs a. tt;
   read-data = λ κs a. tt;
   write-data = λ κs a. tt;
@@ -360,9 +360,9 @@ total = record {
   cancel = λ κs a. tt;
   next-frame = λ κs a. tt;
   read-number = λ κs a. tt;
-  find = λ κs a. tt;
-  fields = λ κs a. tt;
-  field = λ κs a. tt;
+  place-from = λ κs a. tt;
+  field-count = λ κs a. tt;
+  field-at = λ κs a. tt;
   same = λ κs a. tt;
   put-byte = λ κs a. tt;
   put-bytes = λ κs a. tt;

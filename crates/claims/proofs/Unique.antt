@@ -1,7 +1,7 @@
 -- Each promise is an equation for the answer and for every lent number and byte, so two outcomes that both meet it are equal.
 -- The promises are those generated from the sources. Assumes nothing.
 use Prim.Native.Nat.{ℕ}
-use mathlib.Core.List.{List}
+use mathlib.Core.List.{List, map}
 use mathlib.Core.Path.{_≡_, refl, sym, _∙_}
 use borrow.Fn.Kinds as kinds
 use contract.Lifetimes
@@ -9,7 +9,6 @@ use denote.Ref.{now}
 use denote.Triple.Clauses
 use Rattle.open_frame.specs.declared.OpenFrame.{OpenFrame}
 use Rattle.ssp_frame.specs.declared.data.DataFrame.{DataFrame}
-use Rattle.sonerwal.specs.Face.{open9, data6}
 use Rattle.refusals.proofs.Frames.{wrote-once}
 use Rattle.refusals.proofs.number.Kinds as number-of
 use Rattle.refusals.proofs.number.Reads as number
@@ -19,18 +18,18 @@ use Rattle.wire.proofs.get_be.Kinds as get-be-of
 use Rattle.wire.proofs.get_be.Reads as get-be
 use Rattle.wire.proofs.put_be.Kinds as put-be-of
 use Rattle.wire.proofs.put_be.Reads as put-be
-use Rattle.open_frame.proofs.listed.Kinds as open-listed-of
-use Rattle.open_frame.proofs.listed.Reads as open-listed
+use Rattle.open_frame.proofs.head_listed.Kinds as head-listed-of
+use Rattle.open_frame.proofs.head_listed.Reads as head-listed
 use Rattle.open_frame.proofs.read_open.Kinds as read-open-of
 use Rattle.open_frame.proofs.read_open.Reads as read-open
 use Rattle.open_frame.proofs.write_open.Kinds as write-open-of
 use Rattle.open_frame.proofs.write_open.Reads as write-open
 use Rattle.open_frame.proofs.wait_value.Kinds as wait-value-of
 use Rattle.open_frame.proofs.wait_value.Reads as wait-value
-use Rattle.open_frame.proofs.higher.Kinds as higher-of
-use Rattle.open_frame.proofs.higher.Reads as higher
-use Rattle.ssp_frame.proofs.data.listed.Kinds as data-listed-of
-use Rattle.ssp_frame.proofs.data.listed.Reads as data-listed
+use Rattle.open_frame.proofs.higher_than.Kinds as higher-than-of
+use Rattle.open_frame.proofs.higher_than.Reads as higher-than
+use Rattle.ssp_frame.proofs.data.data_listed.Kinds as data-listed-of
+use Rattle.ssp_frame.proofs.data.data_listed.Reads as data-listed
 use Rattle.ssp_frame.proofs.data.read_data.Kinds as read-data-of
 use Rattle.ssp_frame.proofs.data.read_data.Reads as read-data
 use Rattle.ssp_frame.proofs.data.write_data.Kinds as write-data-of
@@ -63,12 +62,12 @@ use Rattle.send.proofs.next_frame.Kinds as next-frame-of
 use Rattle.send.proofs.next_frame.Reads as next-frame
 use Rattle.lines.proofs.read_number.Kinds as read-number-of
 use Rattle.lines.proofs.read_number.Reads as read-number
-use Rattle.lines.proofs.find.Kinds as find-of
-use Rattle.lines.proofs.find.Reads as find
-use Rattle.lines.proofs.fields.Kinds as fields-of
-use Rattle.lines.proofs.fields.Reads as fields
-use Rattle.lines.proofs.field.Kinds as field-of
-use Rattle.lines.proofs.field.Reads as field
+use Rattle.lines.proofs.place_from.Kinds as place-from-of
+use Rattle.lines.proofs.place_from.Reads as place-from
+use Rattle.lines.proofs.field_count.Kinds as field-count-of
+use Rattle.lines.proofs.field_count.Reads as field-count
+use Rattle.lines.proofs.field_at.Kinds as field-at-of
+use Rattle.lines.proofs.field_at.Reads as field-at
 use Rattle.lines.proofs.same.Kinds as same-of
 use Rattle.lines.proofs.same.Reads as same
 use Rattle.lines.proofs.put_byte.Kinds as put-byte-of
@@ -218,6 +217,7 @@ use Rattle.bench_ports.proofs.port_frame_status as port-frame-status
 use Rattle.bench_ports.proofs.port_closed as port-closed
 use Rattle.bench_ports.proofs.port_enable as port-enable
 use Rattle.bench_ports.proofs.port_disable as port-disable
+use Rattle.claims.proofs.Named.{behind3, behind9, first6, first9, open-of, data-of}
 use Rattle.claims.proofs.Walked.{OneEnd}
 use Rattle.claims.proofs.Ports.{ports}
 use Rattle.claims.proofs.Faces.{faces}
@@ -240,7 +240,7 @@ abbrev write-data-left : (κs : Lifetimes.Lfts 2) → Clauses.AtExit (kinds.ende
 write-data-left κs s = now (s .1 .1 .0)
 
 abbrev next-frame-left : (κs : Lifetimes.Lfts 2) → Clauses.AtExit (kinds.endedOf 2 next-frame-of.ps next-frame-of.r) κs → List ℕ
-next-frame-left κs s = now (s .1 .1 .1 .1 .1 .0)
+next-frame-left κs s = now (behind3 (s .1) .1 .0)
 
 abbrev put-byte-left : (κs : Lifetimes.Lfts 1) → Clauses.AtExit (kinds.endedOf 1 put-byte-of.ps put-byte-of.r) κs → List ℕ
 put-byte-left κs s = now (s .1 .0)
@@ -252,7 +252,7 @@ abbrev put-number-left : (κs : Lifetimes.Lfts 1) → Clauses.AtExit (kinds.ende
 put-number-left κs s = now (s .1 .0)
 
 abbrev take-line-left : (κs : Lifetimes.Lfts 2) → Clauses.AtExit (kinds.endedOf 2 take-line-of.ps take-line-of.r) κs → List ℕ
-take-line-left κs s = now (s .1 .1 .1 .0)
+take-line-left κs s = now (behind3 s .0)
 
 abbrev feed-left : (κs : Lifetimes.Lfts 2) → Clauses.AtExit (kinds.endedOf 2 feed-of.ps feed-of.r) κs → List ℕ
 feed-left κs s = now (s .1 .1 .0)
@@ -261,22 +261,22 @@ abbrev close-left : (κs : Lifetimes.Lfts 1) → Clauses.AtExit (kinds.endedOf 1
 close-left κs s = now (s .1 .0)
 
 abbrev sas-open-read-left : (κs : Lifetimes.Lfts 10) → Clauses.AtExit (kinds.endedOf 10 sas-open-read-of.ps sas-open-read-of.r) κs → OpenFrame
-sas-open-read-left κs s = open9 (now (s .1 .0)) (now (s .1 .1 .0)) (now (s .1 .1 .1 .0)) (now (s .1 .1 .1 .1 .0)) (now (s .1 .1 .1 .1 .1 .0)) (now (s .1 .1 .1 .1 .1 .1 .0)) (now (s .1 .1 .1 .1 .1 .1 .1 .0)) (now (s .1 .1 .1 .1 .1 .1 .1 .1 .0)) (now (s .1 .1 .1 .1 .1 .1 .1 .1 .1 .0))
+sas-open-read-left κs s = open-of (map now (first9 (s .1)))
 
 abbrev sas-open-write-left : (κs : Lifetimes.Lfts 1) → Clauses.AtExit (kinds.endedOf 1 sas-open-write-of.ps sas-open-write-of.r) κs → List ℕ
-sas-open-write-left κs s = now (s .1 .1 .1 .1 .1 .1 .1 .1 .1 .0)
+sas-open-write-left κs s = now (behind9 s .0)
 
 abbrev sas-data-read-left : (κs : Lifetimes.Lfts 7) → Clauses.AtExit (kinds.endedOf 7 sas-data-read-of.ps sas-data-read-of.r) κs → DataFrame
-sas-data-read-left κs s = data6 (now (s .1 .0)) (now (s .1 .1 .0)) (now (s .1 .1 .1 .0)) (now (s .1 .1 .1 .1 .0)) (now (s .1 .1 .1 .1 .1 .0)) (now (s .1 .1 .1 .1 .1 .1 .0))
+sas-data-read-left κs s = data-of (map now (first6 (s .1)))
 
 abbrev sas-data-write-left : (κs : Lifetimes.Lfts 2) → Clauses.AtExit (kinds.endedOf 2 sas-data-write-of.ps sas-data-write-of.r) κs → List ℕ
-sas-data-write-left κs s = now (s .1 .1 .1 .1 .1 .1 .0)
+sas-data-write-left κs s = now (behind3 (behind3 s) .0)
 
 abbrev bench-next-left : (κs : Lifetimes.Lfts 2) → Clauses.AtExit (kinds.endedOf 2 bench-next-of.ps bench-next-of.r) κs → List ℕ
-bench-next-left κs s = now (s .1 .1 .1 .1 .1 .1 .1 .1 .1 .0)
+bench-next-left κs s = now (behind9 s .0)
 
 abbrev bench-calls-left : (κs : Lifetimes.Lfts 3) → Clauses.AtExit (kinds.endedOf 3 bench-calls-of.ps bench-calls-of.r) κs → List ℕ
-bench-calls-left κs s = now (s .1 .1 .1 .1 .1 .1 .1 .1 .1 .0)
+bench-calls-left κs s = now (behind9 s .0)
 
 -- 01 PROMISE.1: Each public function's promise determines its answer, new state and each lent byte, on refusals too.
 -- 01 PROMISE.2: Prove that it admits no second answer; list exceptions in docs/ and why.
@@ -286,11 +286,11 @@ pub record Unique : Type 2 where
   pub answer : One 0 answer-of.ps answer-of.r (none 0 answer-of.ps answer-of.r) answer.Post
   pub get-be : One 1 get-be-of.ps get-be-of.r (none 1 get-be-of.ps get-be-of.r) get-be.Post
   pub put-be : One 1 put-be-of.ps put-be-of.r put-be-left put-be.Post
-  pub open-listed : One 0 open-listed-of.ps open-listed-of.r (none 0 open-listed-of.ps open-listed-of.r) open-listed.Post
+  pub head-listed : One 0 head-listed-of.ps head-listed-of.r (none 0 head-listed-of.ps head-listed-of.r) head-listed.Post
   pub read-open : One 1 read-open-of.ps read-open-of.r (none 1 read-open-of.ps read-open-of.r) read-open.Post
   pub write-open : One 1 write-open-of.ps write-open-of.r write-open-left write-open.Post
   pub wait-value : One 0 wait-value-of.ps wait-value-of.r (none 0 wait-value-of.ps wait-value-of.r) wait-value.Post
-  pub higher : One 0 higher-of.ps higher-of.r (none 0 higher-of.ps higher-of.r) higher.Post
+  pub higher-than : One 0 higher-than-of.ps higher-than-of.r (none 0 higher-than-of.ps higher-than-of.r) higher-than.Post
   pub data-listed : One 0 data-listed-of.ps data-listed-of.r (none 0 data-listed-of.ps data-listed-of.r) data-listed.Post
   pub read-data : One 1 read-data-of.ps read-data-of.r (none 1 read-data-of.ps read-data-of.r) read-data.Post
   pub write-data : One 2 write-data-of.ps write-data-of.r write-data-left write-data.Post
@@ -308,9 +308,9 @@ pub record Unique : Type 2 where
   pub cancel : One 0 cancel-of.ps cancel-of.r (none 0 cancel-of.ps cancel-of.r) cancel.Post
   pub next-frame : One 2 next-frame-of.ps next-frame-of.r next-frame-left next-frame.Post
   pub read-number : One 1 read-number-of.ps read-number-of.r (none 1 read-number-of.ps read-number-of.r) read-number.Post
-  pub find : One 1 find-of.ps find-of.r (none 1 find-of.ps find-of.r) find.Post
-  pub fields : One 1 fields-of.ps fields-of.r (none 1 fields-of.ps fields-of.r) fields.Post
-  pub field : (κs : Lifetimes.Lfts 1) (a : kinds.Dens κs field-of.ps) (x y : kinds.resT field-of.r κs .Denot) (s t : Clauses.AtExit (kinds.endedOf 1 field-of.ps field-of.r) κs) → field.Post κs a x s → field.Post κs a y t → now x ≡ now y
+  pub place-from : One 1 place-from-of.ps place-from-of.r (none 1 place-from-of.ps place-from-of.r) place-from.Post
+  pub field-count : One 1 field-count-of.ps field-count-of.r (none 1 field-count-of.ps field-count-of.r) field-count.Post
+  pub field-at : (κs : Lifetimes.Lfts 1) (a : kinds.Dens κs field-at-of.ps) (x y : kinds.resT field-at-of.r κs .Denot) (s t : Clauses.AtExit (kinds.endedOf 1 field-at-of.ps field-at-of.r) κs) → field-at.Post κs a x s → field-at.Post κs a y t → now x ≡ now y
   pub same : One 2 same-of.ps same-of.r (none 2 same-of.ps same-of.r) same.Post
   pub put-byte : One 1 put-byte-of.ps put-byte-of.r put-byte-left put-byte.Post
   pub put-bytes : One 2 put-bytes-of.ps put-bytes-of.r put-bytes-left put-bytes.Post
@@ -402,11 +402,11 @@ unique = record {
   answer = λ κs a x y s t p q. (p ∙ sym q, refl);
   get-be = λ κs a x y s t p q. (p .number ∙ sym (q .number), refl);
   put-be = λ κs a x y s t p q. (refl, p ∙ sym q);
-  open-listed = λ κs a x y s t p q. (p ∙ sym q, refl);
+  head-listed = λ κs a x y s t p q. (p ∙ sym q, refl);
   read-open = λ κs a x y s t p q. (p ∙ sym q, refl);
   write-open = λ κs a x y s t p q. wrote-once p q;
   wait-value = λ κs a x y s t p q. (p ∙ sym q, refl);
-  higher = λ κs a x y s t p q. (p ∙ sym q, refl);
+  higher-than = λ κs a x y s t p q. (p ∙ sym q, refl);
   data-listed = λ κs a x y s t p q. (p ∙ sym q, refl);
   read-data = λ κs a x y s t p q. (p ∙ sym q, refl);
   write-data = λ κs a x y s t p q. wrote-once p q;
@@ -424,9 +424,9 @@ unique = record {
   cancel = λ κs a x y s t p q. (p ∙ sym q, refl);
   next-frame = λ κs a x y s t p q. (p .step ∙ sym (q .step), p .bytes ∙ sym (q .bytes));
   read-number = λ κs a x y s t p q. (p ∙ sym q, refl);
-  find = λ κs a x y s t p q. (p ∙ sym q, refl);
-  fields = λ κs a x y s t p q. (p ∙ sym q, refl);
-  field = λ κs a x y s t p q. p ∙ sym q;
+  place-from = λ κs a x y s t p q. (p ∙ sym q, refl);
+  field-count = λ κs a x y s t p q. (p ∙ sym q, refl);
+  field-at = λ κs a x y s t p q. p ∙ sym q;
   same = λ κs a x y s t p q. (p ∙ sym q, refl);
   put-byte = λ κs a x y s t p q. (p .place ∙ sym (q .place), p .bytes ∙ sym (q .bytes));
   put-bytes = λ κs a x y s t p q. (p .place ∙ sym (q .place), p .bytes ∙ sym (q .bytes));
@@ -491,10 +491,10 @@ unique = record {
   call-closed = (_, (ports .call-closed, λ κs a x y s t p q. (p .0 ∙ sym (q .0), p .1 ∙ sym (q .1))));
   call-enable = (_, (ports .call-enable, λ κs a x y s t p q. (p .0 ∙ sym (q .0), p .1 ∙ sym (q .1))));
   call-disable = (_, (ports .call-disable, λ κs a x y s t p q. (p .0 ∙ sym (q .0), p .1 ∙ sym (q .1))));
-  sas-open-read = λ κs a x y s t p q. (p .answer ∙ sym (q .answer), p .lent ∙ sym (q .lent));
-  sas-open-write = λ κs a x y s t p q. (p .answer ∙ sym (q .answer), p .lent ∙ sym (q .lent));
-  sas-data-read = λ κs a x y s t p q. (p .answer ∙ sym (q .answer), p .lent ∙ sym (q .lent));
-  sas-data-write = λ κs a x y s t p q. (p .answer ∙ sym (q .answer), p .lent ∙ sym (q .lent));
+  sas-open-read = λ κs a x y s t p q. (p .answer ∙ sym (q .answer), p .leaves ∙ sym (q .leaves));
+  sas-open-write = λ κs a x y s t p q. (p .answer ∙ sym (q .answer), p .leaves ∙ sym (q .leaves));
+  sas-data-read = λ κs a x y s t p q. (p .answer ∙ sym (q .answer), p .leaves ∙ sym (q .leaves));
+  sas-data-write = λ κs a x y s t p q. (p .answer ∙ sym (q .answer), p .leaves ∙ sym (q .leaves));
   bench-frames = λ κs a x y s t p q. (p ∙ sym q, refl);
   bench-acks = λ κs a x y s t p q. (p ∙ sym q, refl);
   bench-turns = λ κs a x y s t p q. (p ∙ sym q, refl);

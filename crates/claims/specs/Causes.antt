@@ -8,7 +8,9 @@ use mathlib.Core.Logic.{_↔_}
 use Rattle.refusals.specs.Causes.{bufferGrounds, First, None}
 use Rattle.refusals.specs.declared.Refusal.{Refusal}
 use Rattle.open_frame.specs.declared.Head.{Head}
+use Rattle.open_frame.specs.declared.OpenFrame.{OpenFrame}
 use Rattle.ssp_frame.specs.declared.data.DataHead.{DataHead}
+use Rattle.sonerwal.specs.Face.{Read, Write, DataGiven}
 
 -- a slice of bytes
 abbrev pub Bytes : List ℕ → Type 0
@@ -78,3 +80,16 @@ pub record Answers {A L : Type 0} (refused : Refusal → A) (done x : A) (right 
   pub otherwise : (x ≡ done) ↔ None (bufferGrounds right listed)
   -- a refusal leaves everything as it was
   pub keeps : (k : Refusal) → x ≡ refused k → after ≡ before
+
+-- and so of each kind of call that reads or writes a frame, from Rattle or from C
+abbrev pub ReadsOpen : {A F : Type 0} → (Refusal → A) → A → Read A F → Type 1
+ReadsOpen refused done c = Bytes (c .frame) → Answers refused done (c .answer) (length (c .frame) ≡ 28) (OpenBytes (c .frame)) (c .lent) (c .left)
+
+abbrev pub WritesOpen : {A : Type 0} → (Refusal → A) → A → Write A OpenFrame → Type 1
+WritesOpen refused done c = Answers refused done (c .answer) (length (c .lent) ≡ 28) (OpenFields (c .given .head)) (c .lent) (c .left)
+
+abbrev pub ReadsData : {A F : Type 0} → (Refusal → A) → A → Read A F → Type 1
+ReadsData refused done c = Bytes (c .frame) → Answers refused done (c .answer) (DataLength (length (c .frame))) (DataBytes (c .frame)) (c .lent) (c .left)
+
+abbrev pub WritesData : {A : Type 0} → (Refusal → A) → A → Write A DataGiven → Type 1
+WritesData refused done c = Answers refused done (c .answer) (DataLengths (length (c .given .body)) (length (c .lent))) (DataFields (c .given .head)) (c .lent) (c .left)

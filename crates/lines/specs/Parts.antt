@@ -39,6 +39,10 @@ joined sep (p ∷ q ∷ ps) = p ++ (sep ∷ joined sep (q ∷ ps))
 abbrev pub fieldsWithin : ℕ → List ℕ → List (List ℕ)
 fieldsWithin longest s = cond (leb (length s) longest) (fieldsOf s) []
 
+-- how many fields it has
+abbrev pub fieldCount : ℕ → List ℕ → ℕ
+fieldCount longest s = length (fieldsWithin longest s)
+
 -- field k of a line, counted from 0; nothing where there are fewer
 abbrev pub fieldAt : List ℕ → ℕ → List ℕ
 fieldAt s k = getD (fieldsOf s) k []

@@ -7,7 +7,7 @@ ghost use mathlib.Core.List.{[], _∷_};
 ghost use lib.Dec.{eqb};
 ghost use lib.ListN.{length, drop};
 ghost use Rattle.lines.specs.Numbers.{digitOf, readNumber, decimal};
-ghost use Rattle.lines.specs.Parts.{tab, fieldsWithin, fieldAt, placeFrom, behindTabs};
+ghost use Rattle.lines.specs.Parts.{tab, fieldCount, fieldAt, placeFrom, behindTabs};
 ghost use Rattle.lines.specs.Parts as parts;
 ghost use Rattle.lines.specs.Puts.{Put};
 
@@ -64,7 +64,7 @@ pub fn read_number(s: &[u8], most: u64) -> Number
 }
 
 // Where b stands first in s from a place on, or s's length.
-pub fn find(b: u8, s: &[u8], from: usize) -> usize
+pub fn place_from(b: u8, s: &[u8], from: usize) -> usize
     ensures { λ r. ⌜ r ≡ placeFrom b (now (s .entry)) from ⌝ }
 {
     let mut i = from;
@@ -78,8 +78,8 @@ pub fn find(b: u8, s: &[u8], from: usize) -> usize
 }
 
 // How many fields a line of at most `longest` bytes has; a longer one has none.
-pub fn fields(s: &[u8], longest: usize) -> usize
-    ensures { λ r. ⌜ r ≡ length (fieldsWithin longest (now (s .entry))) ⌝ }
+pub fn field_count(s: &[u8], longest: usize) -> usize
+    ensures { λ r. ⌜ r ≡ fieldCount longest (now (s .entry)) ⌝ }
 {
     if longest < s.len() {
         return 0;
@@ -100,7 +100,7 @@ fn start(s: &[u8], k: usize) -> usize
     let mut at = 0;
     let mut j = 0;
     while j < k {
-        let i = find(b'\t', s, at);
+        let i = place_from(b'\t', s, at);
         if i < s.len() {
             at = i + 1;
         } else {
@@ -112,11 +112,11 @@ fn start(s: &[u8], k: usize) -> usize
 }
 
 // Field k, counted from 0; nothing where there are fewer.
-pub fn field(s: &[u8], k: usize) -> &[u8]
+pub fn field_at(s: &[u8], k: usize) -> &[u8]
     ensures { λ r. ⌜ now r ≡ fieldAt (now (s .entry)) k ⌝ }
 {
     let from = start(s, k);
-    let to = find(b'\t', s, from);
+    let to = place_from(b'\t', s, from);
     &s[from..to]
 }
 

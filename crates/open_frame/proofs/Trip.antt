@@ -16,7 +16,7 @@ use Rattle.refusals.specs.declared.Refusal.{Refusal}
 use Rattle.open_frame.specs.Open.{byte0, byte1, openBytes, headOf, frameOf, notCarried, cleared, headListed, Widths, typed, readOpen}
 use Rattle.open_frame.specs.declared.OpenFrame.{OpenFrame}
 use Rattle.open_frame.specs.declared.OpenRead.the-variants.{Frame, Refused}
-use Rattle.open_frame.proofs.Bytes.{Split, split, first-back, second-back}
+use Rattle.open_frame.proofs.Bytes.{Split, split, byte0-back, byte1-back}
 use Rattle.open_frame.proofs.Fields.{Listed, listed-is}
 
 frame-back : (f : OpenFrame) → headListed (f .head) ≡ true → Widths f → frameOf (openBytes f) ≡ f
@@ -89,8 +89,8 @@ bytes-back : (s : List ℕ) → ((i : ℕ) → getD s i 0 < 256) → length s �
 bytes-back s small l k =
     let b0 = getD s 0 0 in
     let b1 = getD s 1 0 in
-    let e0 : byte0 (b0 / 128) (b0 / 16 % 8) % 256 ≡ b0 = omega (arith, first-back b0 k, small 0) in
-    let e1 : byte1 (b1 / 16) (b1 % 16) % 256 ≡ b1 = omega (arith, second-back b1, small 1) in
+    let e0 : byte0 (b0 / 128) (b0 / 16 % 8) % 256 ≡ b0 = omega (arith, byte0-back b0 k, small 0) in
+    let e1 : byte1 (b1 / 16) (b1 % 16) % 256 ≡ b1 = omega (arith, byte1-back b1, small 1) in
     let e2 = beBytes-beAt s 2 2 small (omega arith) in
     let e4 = beBytes-beAt s 4 8 small (omega arith) in
     let e12 = beBytes-beAt s 12 8 small (omega arith) in

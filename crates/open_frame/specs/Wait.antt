@@ -8,5 +8,5 @@ use Rattle.open_frame.specs.declared.Awt.{Awt}
 abbrev pub waitOf : ℕ → ℕ
 waitOf e = cond (ltb e 32768) e (min (32768 + (e - 32768) / 1000) 65535)
 
-abbrev pub awtOf : ℕ → Awt
-awtOf e = record { 0 = waitOf e }
+abbrev pub waitValue : ℕ → Awt
+waitValue e = record { 0 = waitOf e }

@@ -4,8 +4,9 @@ ghost use mathlib.Core.Bool.{true};
 ghost use Prim.Native.Nat.{_+_, _/_, _%_, _<_};
 ghost use lib.ListN.{length};
 ghost use Rattle.refusals.specs.Causes.{Wrote};
-ghost use Rattle.open_frame.specs.Open.{byte0, byte1, headOf, headListed, readOpen, openBytes, writeCauses};
-ghost use Rattle.open_frame.specs.Wait.{awtOf};
+ghost use Rattle.open_frame.specs.Open.{headOf, headListed, readOpen, openBytes, writeCauses};
+ghost use Rattle.open_frame.specs.Open as opens;
+ghost use Rattle.open_frame.specs.Wait.{waitValue};
 ghost use Rattle.open_frame.specs.Priority.{higherThan};
 use refusals::Refusal;
 use refusals::Written;
@@ -79,23 +80,23 @@ fn low(b: u8) -> u8
 }
 
 // Byte 0, of type 1.
-fn first(initiator: u8, protocol: u8) -> u8
+fn byte0(initiator: u8, protocol: u8) -> u8
     requires { ⌜ (initiator < 2) × (protocol < 8) ⌝ }
-    ensures { λ r. ⌜ r ≡ byte0 initiator protocol ⌝ }
+    ensures { λ r. ⌜ r ≡ opens.byte0 initiator protocol ⌝ }
 {
     (initiator << 7) | ((protocol << 4) | 1)
 }
 
 // Byte 1.
-fn second(features: u8, rate: u8) -> u8
+fn byte1(features: u8, rate: u8) -> u8
     requires { ⌜ (features < 16) × (rate < 16) ⌝ }
-    ensures { λ r. ⌜ r ≡ byte1 features rate ⌝ }
+    ensures { λ r. ⌜ r ≡ opens.byte1 features rate ⌝ }
 {
     (features << 4) | rate
 }
 
 // Whether these are fields of OPEN.
-pub fn listed(h: Head) -> bool
+pub fn head_listed(h: Head) -> bool
     ensures { λ r. ⌜ r ≡ headListed h ⌝ }
 {
     (h.initiator < 2) & ((h.protocol < 3) & ((h.features < 16) & ((8 <= h.rate) & (h.rate < 11))))
@@ -124,7 +125,7 @@ pub fn read_open(s: &[u8]) -> OpenRead
         return OpenRead::Refused(Refusal::Length);
     }
     let head = head_of(s);
-    if (low(s[0]) == 1) & listed(head) {
+    if (low(s[0]) == 1) & head_listed(head) {
         OpenRead::Frame(OpenFrame {
             head,
             pbc: Pbc(s[21]),
@@ -139,8 +140,8 @@ fn put_open(f: OpenFrame, out: &mut [u8])
     requires { ⌜ (length (now out) ≡ 28) × (headListed (f .head) ≡ true) ⌝ }
     ensures { λ _. ⌜ now (out .exit) ≡ openBytes f ⌝ }
 {
-    wire::put_be(out, 0, 1, first(f.head.initiator, f.head.protocol) as u64);
-    wire::put_be(out, 1, 1, second(f.head.features, f.head.rate) as u64);
+    wire::put_be(out, 0, 1, byte0(f.head.initiator, f.head.protocol) as u64);
+    wire::put_be(out, 1, 1, byte1(f.head.features, f.head.rate) as u64);
     wire::put_be(out, 2, 2, f.head.tag as u64);
     wire::put_be(out, 4, 8, f.head.destination);
     wire::put_be(out, 12, 8, f.head.source);
@@ -158,7 +159,7 @@ pub fn write_open(f: OpenFrame, out: &mut [u8]) -> Written
         return Written::Refused(Refusal::Length);
     }
     let head = f.head;
-    if listed(head) {
+    if head_listed(head) {
         put_open(f, out);
         Written::Done
     } else {
@@ -168,7 +169,7 @@ pub fn write_open(f: OpenFrame, out: &mut [u8]) -> Written
 
 // The wait value of elapsed microseconds.
 pub fn wait_value(elapsed: u64) -> Awt
-    ensures { λ r. ⌜ r ≡ awtOf elapsed ⌝ }
+    ensures { λ r. ⌜ r ≡ waitValue elapsed ⌝ }
 {
     if elapsed < 32768 {
         return Awt(elapsed as u16);
@@ -182,7 +183,7 @@ pub fn wait_value(elapsed: u64) -> Awt
 }
 
 // Whether f is of higher priority than g.
-pub fn higher(f: OpenFrame, g: OpenFrame) -> bool
+pub fn higher_than(f: OpenFrame, g: OpenFrame) -> bool
     ensures { λ r. ⌜ r ≡ higherThan f g ⌝ }
 {
     (g.awt.0 < f.awt.0) | ((f.awt.0 == g.awt.0) & (g.head.source < f.head.source))

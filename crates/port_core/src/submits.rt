@@ -36,7 +36,7 @@ fn submit_checked(p: Port, kept: bool, v: Room, x: Submission) -> Checked
     ensures { λ c. ⌜ c ≡ refuse Checked.Refused (submitCauses p kept v x) Checked.Passed ⌝ }
 {
     let h = x.head;
-    if !open_frame::listed(h) {
+    if !open_frame::head_listed(h) {
         return Checked::Refused(Refusal::Unlisted);
     }
     if !kept {

@@ -9,7 +9,7 @@ use Rattle.refusals.specs.Causes.{Cause, _when_, refuse, byCheck}
 use Rattle.refusals.specs.declared.Refusal.{Refusal}
 use Rattle.refusals.specs.declared.Checked.{Checked}
 use Rattle.open_frame.specs.Open.{headListed}
-use Rattle.open_frame.specs.Wait.{awtOf}
+use Rattle.open_frame.specs.Wait.{waitValue}
 use Rattle.open_frame.specs.declared.Awt.{Awt}
 use Rattle.open_frame.specs.declared.Pbc.{Pbc}
 use Rattle.port_parts.specs.Parts.{no, yes, noSlot, noPhy, noStamp, stamped, isSet, disabledPhy, absentPhy, isDisabled, isOpening, isIdle, isSending, isClosingIdle, isClosingSending, blank, isWaiting, isSsp, inRange, names, hasFrameOut}
@@ -216,7 +216,7 @@ firstOpen r now = cond (isSet (r .first)) (r .first) (stamped now)
 
 -- 01 PORT.16
 abbrev pub waitSince : Request → ℕ → Awt
-waitSince r now = awtOf (now - firstOpen r now .at)
+waitSince r now = waitValue (now - firstOpen r now .at)
 
 -- 01 PORT.16
 -- an Open, with the frame that the record holds

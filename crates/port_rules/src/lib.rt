@@ -93,7 +93,7 @@ fn present_rule(r: Request, last: u64) -> bool
     ensures { λ a. ⌜ a ≡ presentRule r last ⌝ }
 {
     let h = r.head;
-    let fields = open_frame::listed(h);
+    let fields = open_frame::head_listed(h);
     flags_rule(r)
         & (fields
             & ((!(r.cancelled == YES) | (r.stage == request_stage::IN_PROGRESS))

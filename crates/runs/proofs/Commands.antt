@@ -13,7 +13,7 @@ use Rattle.lines.specs.Parts.{tab, fieldsOf, fieldsWithin, fieldAt, joined, sam
 use Rattle.lines.proofs.Parts.{fields-joined, too-long}
 use Rattle.lines.specs.Puts.{Put}
 use Rattle.transfer.specs.declared.Transfer.{Transfer}
-use Rattle.runs.specs.Commands.{START, longest, named, startOf, commandOf, readLine, obeyed}
+use Rattle.runs.specs.Commands.{START, longest, commandNamed, startOf, commandOf, readLine, obeyed}
 use Rattle.runs.specs.Rows.{row, longestRow}
 use Rattle.runs.specs.Feed.{enough, Takes}
 use Rattle.runs.specs.declared.Taken.{Taken}
@@ -68,7 +68,7 @@ neither (w ∷ b ∷ n ∷ m ∷ r ∷ x ∷ fs) h k = refl
 
 -- what a line with n fields says
 module _ (s : List ℕ) (n : ℕ) (e : n ≡ length (fieldsWithin longest s)) where
-  pub one-word : n ≡ 1 → readLine s ≡ named s
+  pub one-word : n ≡ 1 → readLine s ≡ commandNamed s
   unfolding readLine commandOf
   one-word h =
       let short = filled s 0 (sym e ∙ h) in

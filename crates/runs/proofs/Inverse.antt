@@ -15,7 +15,7 @@ use Rattle.lines.specs.declared.Number.{Number}
 use Rattle.lines.specs.declared.Number.the-variants.{Value, Not}
 use Rattle.lines.proofs.Numbers.{digit-range, decimal-digits, decimal-short, read-written, written-read}
 use Rattle.lines.proofs.Parts.{free, first-part, one-field, fields-joined, within, same-is}
-use Rattle.runs.specs.Commands.{START, FRAME, ACK, NAK, TIMEOUT, LOST, NEXUS, CANCEL, largest, longest, starting, named, commandOf, readLine, written, Writable}
+use Rattle.runs.specs.Commands.{START, FRAME, ACK, NAK, TIMEOUT, LOST, NEXUS, CANCEL, largest, longest, starting, commandNamed, commandOf, readLine, written, Writable}
 use Rattle.runs.specs.declared.Command.{Command}
 use Rattle.runs.specs.declared.Command.the-variants.{Start, Frame, Ack, Nak, Timeout, Lost, Nexus, Cancel, Bad}
 
@@ -28,7 +28,7 @@ module _ (c : Command) (fine : c ≡ Bad → ⊥) where
       (λ t q. same-is w word t ∙ sym e ∙ ap written q)
       (λ t q. other q)
 
-  word-is : (w : List ℕ) → named w ≡ c → w ≡ written c
+  word-is : (w : List ℕ) → commandNamed w ≡ c → w ≡ written c
   word-is w =
       by-word w FRAME Frame _ refl
       (by-word w ACK Ack _ refl

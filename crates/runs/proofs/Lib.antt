@@ -9,4 +9,4 @@ pub mod Listing
 pub mod Facts
 pub mod Shown
 mod Words
-pub mod Told
+pub mod Ledger

@@ -2,7 +2,7 @@
 use mathlib.Core.Path.{_≡_, refl}
 use Rattle.lines.specs.Numbers.{decimal, readNumber}
 use Rattle.transfer.specs.Rules.{placed, phaseRule, rules}
-use Rattle.transfer.specs.Steps.{settled, drained, acked, naked, startStep, frameStep, ackStep, nakStep}
+use Rattle.transfer.specs.Steps.{settled, drained, acked, nacked, startStep, frameStep, ackStep, nakStep}
 use Rattle.transfer.specs.Calls.{stepOf}
 use Rattle.runs.specs.Commands.{commandOf, readLine, obeyed}
 use Rattle.runs.specs.Rows.{rowOf}
@@ -10,5 +10,5 @@ use Rattle.runs.specs.Output.{outputOf}
 use Rattle.runs.specs.Listing.{listed, printed}
 
 pub listing : outputOf listed ≡ printed
-unfolding outputOf rowOf decimal readNumber commandOf readLine obeyed stepOf startStep frameStep ackStep nakStep settled drained acked naked rules placed phaseRule
+unfolding outputOf rowOf decimal readNumber commandOf readLine obeyed stepOf startStep frameStep ackStep nakStep settled drained acked nacked rules placed phaseRule
 listing = refl

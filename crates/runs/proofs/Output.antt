@@ -15,7 +15,7 @@ use Rattle.lines.specs.Parts.{lf, linesOf}
 use Rattle.lines.proofs.Parts.{free, first-part, one-line, free-end}
 use Rattle.runs.specs.Commands.{readLine, obeyed}
 use Rattle.runs.specs.Rows.{row, longestRow}
-use Rattle.runs.specs.Feed.{Carry, enough, carryOf, runOf, fresh, next, stepped, ended, longer, rowAt, saidAt, afterByte, after, said, takes, Feeds, closing}
+use Rattle.runs.specs.Feed.{Carry, enough, carryOf, runOf, fresh, nextLine, stepped, ended, longer, rowAt, saidAt, afterByte, after, said, takes, Feeds, closing}
 use Rattle.runs.specs.Output.{rows, outputOf}
 use Rattle.runs.specs.declared.Run.{Run}
 use Rattle.runs.specs.declared.Fed.{Fed}
@@ -36,7 +36,7 @@ at-end (b ∷ p) c f e =
     let some : length (take enough (b ∷ p)) ≡ 0 → ⊥ = λ z. omega (arith, length-take enough (b ∷ p)) in
     ap (λ (s : List ℕ). said c (closing (length s))) e
     ∙ ap (λ (t : Bool). said c (cond t [] (lf ∷ []))) (ne-eqb (length (take enough (b ∷ p))) 0 some)
-    ∙ (λ i. row (next (c .line)) (row-kept (b ∷ p) c e i) ++ [])
+    ∙ (λ i. row (nextLine (c .line)) (row-kept (b ∷ p) c e i) ++ [])
     ∙ ap (rows (c .line) (c .state)) (sym (one-line lf b p f))
 
 from-here : (x p : List ℕ) (c : Carry) → free lf p ≡ true → c .begun ≡ take enough p → saying c x ≡ rows (c .line) (c .state) (linesOf (p ++ x))
@@ -49,7 +49,7 @@ from-here (b ∷ x) p c f e = by (eqb b lf) refl (from-here x)
     by true q rest =
         append-assoc (rowAt c) (said (ended c) x) _
         ∙ ap (λ (s : List ℕ). rowAt c ++ s) (rest [] (ended c) refl refl)
-        ∙ (λ i. row (next (c .line)) (row-kept p c e i) ++ rows (next (c .line)) (row-kept p c e i .state) (linesOf x))
+        ∙ (λ i. row (nextLine (c .line)) (row-kept p c e i) ++ rows (nextLine (c .line)) (row-kept p c e i .state) (linesOf x))
         ∙ ap (rows (c .line) (c .state)) (sym (first-part lf [] p x f))
         ∙ ap (λ (y : ℕ). rows (c .line) (c .state) (linesOf (p ++ (y ∷ x)))) (sym (eqb-true b lf q))
     by false q rest =

@@ -48,12 +48,12 @@ one-number : (m n : ℕ) → decimal m ≡ decimal n → m ≡ n
 one-number m n e = sym (decimal-value m) ∙ ap (valueFrom 0) e ∙ decimal-value n
 
 -- the answer of a word
-abbrev named : List (List ℕ) → List Answer → List ℕ → Answer
-named [] answers w = Answer.Ok
-named (v ∷ vs) [] w = Answer.Ok
-named (v ∷ vs) (a ∷ answers) w = cond (same w v) a (named vs answers w)
+abbrev answerNamed : List (List ℕ) → List Answer → List ℕ → Answer
+answerNamed [] answers w = Answer.Ok
+answerNamed (v ∷ vs) [] w = Answer.Ok
+answerNamed (v ∷ vs) (a ∷ answers) w = cond (same w v) a (answerNamed vs answers w)
 
-back : (a : Answer) → named typedWords typedAnswers (wordOf a) ≡ a
+back : (a : Answer) → answerNamed typedWords typedAnswers (wordOf a) ≡ a
 unfolding decimal
 back Answer.Ok = refl
 back Answer.Sent = refl
@@ -74,7 +74,7 @@ back (Answer.Refused Refusal.Present) = refl
 back (Answer.Refused Refusal.Full) = refl
 
 one-word : (a b : Answer) → wordOf a ≡ wordOf b → a ≡ b
-one-word a b e = sym (back a) ∙ ap (named typedWords typedAnswers) e ∙ back b
+one-word a b e = sym (back a) ∙ ap (answerNamed typedWords typedAnswers) e ∙ back b
 
 -- ---- a row, and what stands behind it
 

@@ -14,7 +14,7 @@ use Rattle.lines.proofs.Parts.{past}
 use Rattle.lines.proofs.Puts.{then, nothing, kept, fits-front}
 use Rattle.transfer.specs.declared.Transfer.{Transfer}
 use Rattle.runs.specs.Rows.{row, longestRow}
-use Rattle.runs.specs.Feed.{Carry, enough, carryOf, runOf, next, stepped, ended, rowAt, after, said, takes, fedOf, Takes, Feeds}
+use Rattle.runs.specs.Feed.{Carry, enough, carryOf, runOf, nextLine, stepped, ended, rowAt, after, said, takes, fedOf, Takes, Feeds}
 use Rattle.runs.specs.declared.Run.{Run}
 use Rattle.runs.specs.declared.Taken.{Taken}
 use Rattle.runs.proofs.Carry.{on, Going, going-first, there, stops, going-line, end-inside}
@@ -53,7 +53,7 @@ module _ {c₀ : Carry} {block out₀ out : List ℕ} {line len : ℕ} {keep : L
     same-test = λ j. eqb end (length block) || ltb (kept (l .bytes) j - said-all j) longestRow
 
     pub loop-line : eqb end (length block) || ltb (length out - at) longestRow ≡ false →
-        {k : ℕ} → k ≡ next line → {r : Taken} {out' keep' : List ℕ} → length keep' ≡ enough →
+        {k : ℕ} → k ≡ nextLine line → {r : Taken} {out' keep' : List ℕ} → length keep' ≡ enough →
         Takes k state (take enough (take len keep ++ piece)) out at r out' → Loop c₀ block out₀ out' k 0 keep' (r .state) (r .place) (end + 1)
     loop-line h {k} n {r} {out'} {keep'} s t =
         let c : Carry = on (carry line len keep state) piece in

@@ -9,7 +9,7 @@ use lib.Dec.{eqb, leb}
 use Rattle.laws.proofs.Bools.{impossible, by-test}
 use Rattle.refusals.proofs.Causes.{NoneGiven, by-causes}
 use Rattle.refusals.specs.Causes.{Cause, refuse}
-use Rattle.transfer.specs.Steps.{limit, unfinished, draining, say, refused, started, framed, frameLength, answered, allSent, settled, drained, acked, naked, dropped, ended}
+use Rattle.transfer.specs.Steps.{limit, unfinished, draining, say, refused, started, framed, frameLength, answered, allSent, settled, drained, acked, nacked, dropped, ended}
 use Rattle.transfer.specs.Steps.{startCauses, frameCauses, answerCauses, endCauses, startStep, frameStep, ackStep, nakStep, dropStep, endStep}
 use Rattle.transfer.specs.Calls.{stepOf}
 use Rattle.transfer.specs.History.{View, isRefused}
@@ -17,9 +17,9 @@ use Rattle.transfer.specs.declared.Transfer.{Transfer}
 use Rattle.transfer.specs.declared.Stepped.{Stepped}
 use Rattle.transfer.specs.declared.Answer.{Answer}
 use Rattle.transfer.specs.declared.Phase.{Phase}
-use Rattle.transfer.proofs.Balance.{Live}
+use Rattle.transfer.proofs.Invariant.{Live}
 use Rattle.runs.specs.Commands.{obeyed}
-use Rattle.runs.specs.Told.{Among, wordsFor, isDrain}
+use Rattle.runs.specs.Ledger.{Among, wordsFor, isDrain}
 use Rattle.runs.specs.declared.Command.{Command}
 use Rattle.runs.specs.declared.Command.the-variants.{Start, Frame, Ack, Nak, Timeout, Lost, Nexus, Cancel, Bad}
 
@@ -42,8 +42,8 @@ module _ (s : Transfer) where
       by-test P (draining (s .phase)) (λ d. drain-words (wordsFor Ack) (inr (inr (inl refl))) (inr (inl refl)))
       (λ d. by-test P (eqb (s .unanswered - 1) 0) (λ z. by-test P (allSent s) (λ q e. (inr (inr (inr (inl refl))), refl)) (λ q e. (inl refl, sym d))) (λ z e. (inl refl, sym d)))
 
-  nak-words : Has (wordsFor Nak) (naked (answered s))
-  unfolding naked
+  nak-words : Has (wordsFor Nak) (nacked (answered s))
+  unfolding nacked
   nak-words = by-test (Has (wordsFor Nak)) (leb (s .resends) (s .used)) (λ u e. (inr (inr (inl refl)), refl)) (λ u. drain-words (wordsFor Nak) (inr (inl refl)) (inl refl))
 
   drop-words : Has (wordsFor Lost) (dropped s)
@@ -55,7 +55,7 @@ module _ (s : Transfer) where
   said-word (Start b n m r) = unless-refused (wordsFor (Start b n m r)) (startCauses limit b n m r s) (say Answer.Ok (started b n m r)) (λ off e. (inl refl, refl))
   said-word Frame = unless-refused (wordsFor Frame) (frameCauses limit s) (framed (frameLength s) s) (λ off e. (inl refl, sym (off .1 .1 .0)))
   said-word Ack = unless-refused (wordsFor Ack) (answerCauses limit s) (acked (answered s)) (λ off. ack-words)
-  said-word Nak = unless-refused (wordsFor Nak) (answerCauses limit s) (naked (answered s)) (λ off. nak-words)
+  said-word Nak = unless-refused (wordsFor Nak) (answerCauses limit s) (nacked (answered s)) (λ off. nak-words)
   said-word Timeout = unless-refused (wordsFor Timeout) (answerCauses limit s) (dropped s) (λ off. drop-words)
   said-word Lost = unless-refused (wordsFor Lost) (answerCauses limit s) (dropped s) (λ off. drop-words)
   said-word Nexus = unless-refused (wordsFor Nexus) (endCauses limit s) (ended s) (λ off e. (inl refl, refl))

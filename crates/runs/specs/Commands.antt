@@ -60,8 +60,8 @@ abbrev pub startOf : List ℕ → Command
 startOf s = starting (readNumber largest (fieldAt s 1)) (readNumber largest (fieldAt s 2)) (readNumber largest (fieldAt s 3)) (readNumber largest (fieldAt s 4))
 
 -- the command of one word
-abbrev pub named : List ℕ → Command
-named w =
+abbrev pub commandNamed : List ℕ → Command
+commandNamed w =
     cond (same w FRAME) Frame
     (cond (same w ACK) Ack
     (cond (same w NAK) Nak
@@ -73,7 +73,7 @@ named w =
 -- 01 TEXT.1: `readrun` reads tab-parted lines from standard input: START B N M R, FRAME, ACK, NAK, TIMEOUT, LOST, NEXUS, CANCEL.
 unfoldable pub commandOf : List (List ℕ) → Command
 commandOf [] = Bad
-commandOf (w ∷ []) = named w
+commandOf (w ∷ []) = commandNamed w
 commandOf (w ∷ b ∷ []) = Bad
 commandOf (w ∷ b ∷ n ∷ []) = Bad
 commandOf (w ∷ b ∷ n ∷ m ∷ []) = Bad

@@ -38,20 +38,20 @@ abbrev pub fresh : Carry
 fresh = record { line = 0; begun = []; state = before }
 
 -- line numbers start at 1, and the last of 64 bits stays
-abbrev pub next : ℕ → ℕ
-next line = cond (ltb line 18446744073709551615) (line + 1) line
+abbrev pub nextLine : ℕ → ℕ
+nextLine line = cond (ltb line 18446744073709551615) (line + 1) line
 
 abbrev pub stepped : Carry → Stepped
 stepped c = obeyed (readLine (c .begun)) (c .state)
 
 abbrev pub ended : Carry → Carry
-ended c = record { line = next (c .line); begun = []; state = stepped c .state }
+ended c = record { line = nextLine (c .line); begun = []; state = stepped c .state }
 
 abbrev pub longer : Carry → ℕ → Carry
 longer c b = record { line = c .line; begun = take enough (c .begun ++ (b ∷ [])); state = c .state }
 
 abbrev pub rowAt : Carry → List ℕ
-rowAt c = row (next (c .line)) (stepped c)
+rowAt c = row (nextLine (c .line)) (stepped c)
 
 -- one byte
 abbrev pub afterByte : Carry → ℕ → Carry

@@ -7,4 +7,4 @@ pub mod Output
 pub mod Listing
 pub mod Typed
 pub mod Turns
-pub mod Told
+pub mod Ledger

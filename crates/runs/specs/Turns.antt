@@ -10,7 +10,7 @@ use Rattle.transfer.specs.declared.Transfer.{Transfer}
 use Rattle.transfer.specs.declared.Stepped.{Stepped}
 use Rattle.runs.specs.Commands.{readLine, obeyed}
 use Rattle.runs.specs.Rows.{rowOf}
-use Rattle.runs.specs.Feed.{next}
+use Rattle.runs.specs.Feed.{nextLine}
 use Rattle.runs.specs.Output.{outputOf}
 use Rattle.runs.specs.declared.Command.{Command}
 
@@ -20,12 +20,12 @@ pub record Turn : Type 0 where
 
 -- what a command gives behind k lines
 abbrev pub turnOf : ℕ → Command → Stepped → Turn
-turnOf k c step = record { said = c; shown = line (next k) (step .answer) (step .state .read) (step .state .balance) (step .state .unanswered) (step .state .used) }
+turnOf k c step = record { said = c; shown = line (nextLine k) (step .answer) (step .state .read) (step .state .balance) (step .state .unanswered) (step .state .used) }
 
 -- the turns of some lines, behind k others
 abbrev pub turns : ℕ → Transfer → List (List ℕ) → List Turn
 turns k s [] = []
-turns k s (l ∷ ls) = turnOf k (readLine l) (obeyed (readLine l) s) ∷ turns (next k) (obeyed (readLine l) s .state) ls
+turns k s (l ∷ ls) = turnOf k (readLine l) (obeyed (readLine l) s) ∷ turns (nextLine k) (obeyed (readLine l) s .state) ls
 
 abbrev pub turnsOf : List ℕ → List Turn
 turnsOf input = turns 0 before (linesOf input)

@@ -7,10 +7,11 @@ ghost use lib.ListN.{length, take};
 ghost use Rattle.lines.specs.Numbers.{readNumber, decimal};
 ghost use Rattle.lines.specs.Parts.{tab, fieldAt};
 ghost use Rattle.lines.specs.Puts.{Put};
-ghost use Rattle.runs.specs.Commands.{largest, named, startOf, readLine, obeyed};
+ghost use Rattle.runs.specs.Commands.{largest, commandNamed, startOf, readLine};
+ghost use Rattle.runs.specs.Commands as commands;
 ghost use Rattle.runs.specs.Rows.{rowOf, longestRow};
 ghost use Rattle.runs.specs.Rows as rows;
-ghost use Rattle.runs.specs.Feed.{enough, runOf, next, closing, Takes, Feeds};
+ghost use Rattle.runs.specs.Feed.{enough, runOf, nextLine, closing, Takes, Feeds};
 ghost use Rattle.runs.specs.Feed as feeds;
 use lines::Number;
 use refusals::Refusal;
@@ -58,7 +59,7 @@ pub struct Fed {
 }
 
 // The largest number that a line may have.
-const LARGEST: u64 = 4294967295;
+const LARGEST: u64 = 0xffffffff;
 
 // The longest line, LF not counted.
 const LONGEST: usize = 255;
@@ -66,8 +67,9 @@ const LONGEST: usize = 255;
 // The longest row.
 const ROW: usize = 71;
 
-fn word(s: &[u8]) -> Command
-    ensures { λ r. ⌜ r ≡ named (now (s .entry)) ⌝ }
+// The command of one word.
+fn command_named(s: &[u8]) -> Command
+    ensures { λ r. ⌜ r ≡ commandNamed (now (s .entry)) ⌝ }
 {
     if lines::same(s, b"FRAME") {
         return Command::Frame;
@@ -96,11 +98,11 @@ fn word(s: &[u8]) -> Command
 fn number(s: &[u8], k: usize) -> Number
     ensures { λ r. ⌜ r ≡ readNumber largest (fieldAt (now (s .entry)) k) ⌝ }
 {
-    lines::read_number(lines::field(s, k), LARGEST)
+    lines::read_number(lines::field_at(s, k), LARGEST)
 }
 
 // The numbers behind START.
-fn numbers(s: &[u8]) -> Command
+fn start_of(s: &[u8]) -> Command
     ensures { λ r. ⌜ r ≡ startOf (now (s .entry)) ⌝ }
 {
     let offset = number(s, 1);
@@ -130,18 +132,18 @@ fn numbers(s: &[u8]) -> Command
 fn read_line(s: &[u8]) -> Command
     ensures { λ r. ⌜ r ≡ readLine (now (s .entry)) ⌝ }
 {
-    let n = lines::fields(s, LONGEST);
+    let n = lines::field_count(s, LONGEST);
     if n == 1 {
-        return word(s);
+        return command_named(s);
     }
-    if (n == 5) & lines::same(lines::field(s, 0), b"START") {
-        return numbers(s);
+    if (n == 5) & lines::same(lines::field_at(s, 0), b"START") {
+        return start_of(s);
     }
     Command::Bad
 }
 
-fn obey(c: Command, t: Transfer) -> Stepped
-    ensures { λ r. ⌜ r ≡ obeyed c t ⌝ }
+fn obeyed(c: Command, t: Transfer) -> Stepped
+    ensures { λ r. ⌜ r ≡ commands.obeyed c t ⌝ }
 {
     match c {
         Command::Start { b, n, m, r } => {
@@ -240,7 +242,7 @@ fn put_row(
 pub fn take_line(line: u64, t: Transfer, s: &[u8], out: &mut [u8], at: usize) -> Taken
     ensures { λ r. ⌜ Takes line t (now (s .entry)) (now (out .entry)) at r (now (out .exit)) ⌝ }
 {
-    let step = obey(read_line(s), t);
+    let step = obeyed(read_line(s), t);
     let a = step.answer;
     let state = step.state;
     let place = put_row(
@@ -257,9 +259,9 @@ pub fn take_line(line: u64, t: Transfer, s: &[u8], out: &mut [u8], at: usize) ->
 }
 
 fn next_line(line: u64) -> u64
-    ensures { λ r. ⌜ r ≡ next line ⌝ }
+    ensures { λ r. ⌜ r ≡ nextLine line ⌝ }
 {
-    if line < 18446744073709551615 {
+    if line < 0xffffffffffffffff {
         return line + 1;
     }
     line
@@ -340,7 +342,7 @@ pub fn feed(run: Run, block: &[u8], out: &mut [u8]) -> Fed
     let mut at = 0;
     let mut i = 0;
     while i < block.len() {
-        let end = lines::find(b'\n', block, i);
+        let end = lines::place_from(b'\n', block, i);
         if (end == block.len()) | (out.len() - at < ROW) {
             return Fed {
                 run: hold(line, state, front(&keep, len), &block[i..end]),

@@ -30,15 +30,15 @@ use Rattle.transfer.proofs.Calls.{frame-fits}
 use Rattle.transfer.proofs.Demand.{apart}
 use Rattle.send.specs.Send.{headOf, fitting, nextCauses, nextStep, nextBytes, isSent}
 use Rattle.send.specs.Calls.{Call, next}
-use Rattle.send.specs.History.{Shot, found, written, shotsOf, frameOf, entryOf, frames}
+use Rattle.send.specs.History.{Sent, found, written, entriesOf, frameOf, entryOf, frames}
 use Rattle.send.proofs.Laws.{Long, long}
 
 -- the frames of what a call left, before those of the history
-pub joined : (es : List (EntryOf Shot)) (fs : List Entry) (h : List (EntryOf Shot)) → frames es ≡ fs → fs ++ frames h ≡ frames (es ++ h)
+pub joined : (es : List (EntryOf Sent)) (fs : List Entry) (h : List (EntryOf Sent)) → frames es ≡ fs → fs ++ frames h ≡ frames (es ++ h)
 joined es fs h e = sym (map-append entryOf es h ∙ ap (λ (l : List Entry). l ++ frames h) e)
 
 -- an entry's frame goes through
-pub entry-frames : (c : plainly.Call) (f : Shot) (a : Answer) → frames (entries c f a) ≡ entries c (frameOf f) a
+pub entry-frames : (c : plainly.Call) (f : Sent) (a : Answer) → frames (entries c f a) ≡ entries c (frameOf f) a
 entry-frames c f a = by (isRefused a) c
   where
     by : (t : Bool) (c : plainly.Call) → frames (cond t [] (entryFor c f ∷ [])) ≡ cond t [] (entryFor c (frameOf f) ∷ [])
@@ -115,17 +115,17 @@ module _ (bound : ℕ) (s : Transfer) (destination source tag : ℕ) (body out :
           })
 
   -- what the history holds of the call
-  pub next-frames : frames (shotsOf bound (next destination source tag body out) s) ≡ entries plainly.Call.frame (nextFrame s) (nextStep bound s head body out .answer)
+  pub next-frames : frames (entriesOf bound (next destination source tag body out) s) ≡ entries plainly.Call.frame (nextFrame s) (nextStep bound s head body out .answer)
   next-frames = by outcome
     where
-      by : Outcome → frames (shotsOf bound (next destination source tag body out) s) ≡ entries plainly.Call.frame (nextFrame s) (nextStep bound s head body out .answer)
+      by : Outcome → frames (entriesOf bound (next destination source tag body out) s) ≡ entries plainly.Call.frame (nextFrame s) (nextStep bound s head body out .answer)
       by (kept k) =
-          let shot = written (length body) (nextBytes bound s head body out) in
-          entry-frames plainly.Call.frame shot (nextStep bound s head body out .answer)
-          ∙ ap (λ (st : Stepped). entries plainly.Call.frame (frameOf shot) (st .answer)) (k .step)
+          let wrote = written (length body) (nextBytes bound s head body out) in
+          entry-frames plainly.Call.frame wrote (nextStep bound s head body out .answer)
+          ∙ ap (λ (st : Stepped). entries plainly.Call.frame (frameOf wrote) (st .answer)) (k .step)
           ∙ sym (ap (λ (st : Stepped). entries plainly.Call.frame (nextFrame s) (st .answer)) (k .step))
       by (taken t) =
-          let shot = written (length body) (nextBytes bound s head body out) in
-          let same : frameOf shot ≡ nextFrame s = ap frameOf (t .bytes) ∙ (λ i. record { at = s .read; len = t .count i }) in
-          entry-frames plainly.Call.frame shot (nextStep bound s head body out .answer)
+          let wrote = written (length body) (nextBytes bound s head body out) in
+          let same : frameOf wrote ≡ nextFrame s = ap frameOf (t .bytes) ∙ (λ i. record { at = s .read; len = t .count i }) in
+          entry-frames plainly.Call.frame wrote (nextStep bound s head body out .answer)
           ∙ ap (λ (f : Frame). entries plainly.Call.frame f (nextStep bound s head body out .answer)) same

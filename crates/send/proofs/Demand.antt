@@ -13,11 +13,12 @@ use Rattle.transfer.specs.Demand.{Demand3}
 use Rattle.transfer.specs.History.{Entry, EntryOf, entries, view}
 use Rattle.transfer.specs.declared.Transfer.{Transfer}
 use Rattle.transfer.specs.declared.Stepped.{Stepped}
-use Rattle.transfer.proofs.Balance.{Inv, After, keeps, at-first}
+use Rattle.transfer.proofs.Invariant.{Inv}
+use Rattle.transfer.proofs.Balance.{After, keeps, at-first}
 use Rattle.transfer.proofs.Demand.{demand, demand-of, apart}
 use Rattle.send.specs.Send.{headOf, nextStep}
 use Rattle.send.specs.Calls.{Call, plain, next, stepOf, run, Typed, AllTyped}
-use Rattle.send.specs.History.{Shot, unwritten, shotsOf, history, frames}
+use Rattle.send.specs.History.{Sent, unwritten, entriesOf, history, frames}
 use Rattle.send.proofs.Bytes.{entry-frames, joined, Outcome, taken, kept, outcome, next-frames}
 
 module _ (bound : ℕ) (s : Transfer) (h : List Entry) (i : Inv bound s (view h)) where
@@ -40,15 +41,15 @@ module _ (bound : ℕ) (s : Transfer) (h : List Entry) (i : Inv bound s (view h)
       by (kept k) = subst Meets (sym (k .step)) (refused-meets (k .why))
 
 -- a call of either kind keeps the invariant, and demand 3 holds of it
-pub record Sound (bound : ℕ) (s : Transfer) (h : List (EntryOf Shot)) (c : Call) : Type 0 where
-  pub holds : Inv bound (stepOf bound c s .state) (view (frames (shotsOf bound c s ++ h)))
-  pub demand : Demand3 bound s (frames h) (frames (shotsOf bound c s)) (stepOf bound c s)
+pub record Sound (bound : ℕ) (s : Transfer) (h : List (EntryOf Sent)) (c : Call) : Type 0 where
+  pub holds : Inv bound (stepOf bound c s .state) (view (frames (entriesOf bound c s ++ h)))
+  pub demand : Demand3 bound s (frames h) (frames (entriesOf bound c s)) (stepOf bound c s)
 
-pub sound : (bound : ℕ) (s : Transfer) (h : List (EntryOf Shot)) (c : Call) → Typed c → Inv bound s (view (frames h)) → Sound bound s h c
+pub sound : (bound : ℕ) (s : Transfer) (h : List (EntryOf Sent)) (c : Call) → Typed c → Inv bound s (view (frames h)) → Sound bound s h c
 sound bound s h (plain c) typed i =
     let same = entry-frames c (unwritten s) (plainly.stepOf bound c s .answer) in
     record {
-      holds = subst (λ (es : List Entry). Inv bound (plainly.stepOf bound c s .state) (view es)) (joined (shotsOf bound (plain c) s) _ h same) (keeps bound s (frames h) i c);
+      holds = subst (λ (es : List Entry). Inv bound (plainly.stepOf bound c s .state) (view es)) (joined (entriesOf bound (plain c) s) _ h same) (keeps bound s (frames h) i c);
       demand = subst (λ (es : List Entry). Demand3 bound s (frames h) es (plainly.stepOf bound c s)) (sym same) (demand bound s (frames h) i c);
     }
 sound bound s h (next destination source tag body out) typed i =
@@ -56,17 +57,17 @@ sound bound s h (next destination source tag body out) typed i =
     let meets = next-meets bound s (frames h) i destination source tag body out typed in
     let st = nextStep bound s (headOf s destination source tag) body out in
     record {
-      holds = subst (λ (es : List Entry). Inv bound (st .state) (view es)) (joined (shotsOf bound (next destination source tag body out) s) _ h same) (meets .0);
+      holds = subst (λ (es : List Entry). Inv bound (st .state) (view es)) (joined (entriesOf bound (next destination source tag body out) s) _ h same) (meets .0);
       demand = subst (λ (es : List Entry). Demand3 bound s (frames h) es st) (sym same) (meets .1);
     }
 
-pub all-sound : (bound : ℕ) (cs : List Call) (s : Transfer) (h : List (EntryOf Shot)) → AllTyped cs → Inv bound s (view (frames h)) → Inv bound (run bound cs s) (view (frames (history bound cs s h)))
+pub all-sound : (bound : ℕ) (cs : List Call) (s : Transfer) (h : List (EntryOf Sent)) → AllTyped cs → Inv bound s (view (frames h)) → Inv bound (run bound cs s) (view (frames (history bound cs s h)))
 all-sound bound [] s h typed i = i
-all-sound bound (c ∷ cs) s h typed i = all-sound bound cs (stepOf bound c s .state) (shotsOf bound c s ++ h) (typed .1) (sound bound s h c (typed .0) i .holds)
+all-sound bound (c ∷ cs) s h typed i = all-sound bound cs (stepOf bound c s .state) (entriesOf bound c s ++ h) (typed .1) (sound bound s h c (typed .0) i .holds)
 
 -- DEMAND 3, over any calls of both kinds from the state before START, and one call more
 pub demand-3 : (bound : ℕ) (cs : List Call) (c : Call) → AllTyped cs → Typed c →
     let s = run bound cs before in
     let h = history bound cs before [] in
-    Demand3 bound s (frames h) (frames (shotsOf bound c s)) (stepOf bound c s)
+    Demand3 bound s (frames h) (frames (entriesOf bound c s)) (stepOf bound c s)
 demand-3 bound cs c typed one = sound bound (run bound cs before) (history bound cs before []) c one (all-sound bound cs before [] typed (at-first bound)) .demand

@@ -12,7 +12,7 @@ use Rattle.transfer.specs.declared.Transfer.{Transfer}
 use Rattle.transfer.specs.declared.Stepped.{Stepped}
 use Rattle.transfer.proofs.Endless.{ends}
 use Rattle.send.specs.Calls.{Call, plain, next, stepOf, run, Typed, AllTyped}
-use Rattle.send.specs.History.{Shot, unwritten, shotsOf, history, frames}
+use Rattle.send.specs.History.{Sent, unwritten, entriesOf, history, frames}
 use Rattle.send.proofs.Bytes.{entry-frames, joined, Outcome, taken, kept, outcome, next-frames}
 
 -- plain calls that take s to t, and the history h to g
@@ -48,33 +48,33 @@ module _ (bound : ℕ) {s u t : Transfer} {h k g : List Entry} where
 abbrev next-entries : Transfer → Stepped → List Entry
 next-entries s x = entries plainly.Call.frame (log.nextFrame s) (x .answer)
 
-module _ (bound : ℕ) (s : Transfer) (destination source tag : ℕ) (body out : List ℕ) (typed : Typed (next destination source tag body out)) (h : List (EntryOf Shot)) where
+module _ (bound : ℕ) (s : Transfer) (destination source tag : ℕ) (body out : List ℕ) (typed : Typed (next destination source tag body out)) (h : List (EntryOf Sent)) where
   abbrev call : Call
   call = next destination source tag body out
 
-  left : frames (shotsOf bound call s) ≡ next-entries s (stepOf bound call s)
+  left : frames (entriesOf bound call s) ≡ next-entries s (stepOf bound call s)
   left = next-frames bound s destination source tag body out typed
 
   -- a next-frame call before others
-  with-next : {t : Transfer} {g : List Entry} → Outcome bound s destination source tag body out typed → Plainly bound (stepOf bound call s .state) t (frames (shotsOf bound call s ++ h)) g → Plainly bound s t (frames h) g
+  with-next : {t : Transfer} {g : List Entry} → Outcome bound s destination source tag body out typed → Plainly bound (stepOf bound call s .state) t (frames (entriesOf bound call s ++ h)) g → Plainly bound s t (frames h) g
   with-next (taken x) rest =
       let step : plainly.stepOf bound plainly.Call.frame s ≡ stepOf bound call s = frame-step bound s ∙ sym (x .step) in
-      let added = joined (shotsOf bound call s) (log.entriesOf bound plainly.Call.frame s) h (left ∙ ap (next-entries s) (sym step)) in
+      let added = joined (entriesOf bound call s) (log.entriesOf bound plainly.Call.frame s) h (left ∙ ap (next-entries s) (sym step)) in
       with-call bound plainly.Call.frame (ap (λ (st : Stepped). st .state) step) added rest
   with-next (kept x) rest =
-      let added = joined (shotsOf bound call s) [] h (left ∙ ap (next-entries s) (x .step)) in
+      let added = joined (entriesOf bound call s) [] h (left ∙ ap (next-entries s) (x .step)) in
       with-none bound (ap (λ (st : Stepped). st .state) (sym (x .step))) added rest
 
-pub as-plain : (bound : ℕ) (cs : List Call) (s : Transfer) (h : List (EntryOf Shot)) → AllTyped cs → Plainly bound s (run bound cs s) (frames h) (frames (history bound cs s h))
+pub as-plain : (bound : ℕ) (cs : List Call) (s : Transfer) (h : List (EntryOf Sent)) → AllTyped cs → Plainly bound s (run bound cs s) (frames h) (frames (history bound cs s h))
 as-plain bound [] s h typed = record { calls = []; state = refl; same = refl }
 as-plain bound (plain c ∷ cs) s h typed =
-    let es = shotsOf bound (plain c) s in
+    let es = entriesOf bound (plain c) s in
     let added = joined es (log.entriesOf bound c s) h (entry-frames c (unwritten s) (plainly.stepOf bound c s .answer)) in
     with-call bound c refl added (as-plain bound cs (plainly.stepOf bound c s .state) (es ++ h) (typed .1))
 as-plain bound (next destination source tag body out ∷ cs) s h typed =
     let c = next destination source tag body out in
     with-next bound s destination source tag body out (typed .0) h (outcome bound s destination source tag body out (typed .0))
-    (as-plain bound cs (stepOf bound c s .state) (shotsOf bound c s ++ h) (typed .1))
+    (as-plain bound cs (stepOf bound c s .state) (entriesOf bound c s ++ h) (typed .1))
 
 -- over any calls of both kinds at most (R+1) times ⌈N/M⌉ frames go for one START
 pub sends-end : (bound : ℕ) (cs : List Call) → AllTyped cs → let s = run bound cs before in framesSent (frames (history bound cs before [])) ≤ (s .resends + 1) * framesOf (s .count) (s .size)

@@ -19,7 +19,7 @@ use Rattle.transfer.specs.History.{Entry, view}
 use Rattle.transfer.specs.Words.{Asked, unasked, lastEnd, whole, underway, refusalOf}
 use Rattle.transfer.specs.declared.Transfer.{Transfer}
 use Rattle.transfer.specs.declared.Stepped.{Stepped}
-use Rattle.transfer.proofs.Balance.{Inv}
+use Rattle.transfer.proofs.Invariant.{Inv}
 use Rattle.transfer.proofs.Words.{Tally, read-is}
 use Rattle.transfer.proofs.Refused.{Lives, frame-refused, refuses, lived}
 use Rattle.send.specs.Send.{headOf, fitting, nextCauses, nextStep}

@@ -18,14 +18,17 @@ use Rattle.transfer.specs.Words.{Asked, unasked, lastEnd, wordOf, wordBy}
 use Rattle.transfer.specs.declared.Transfer.{Transfer}
 use Rattle.transfer.specs.declared.Stepped.{Stepped}
 use Rattle.transfer.specs.declared.Answer.{Answer}
-use Rattle.transfer.proofs.Balance.{Inv, at-first}
+use Rattle.transfer.proofs.Invariant.{Inv}
+use Rattle.transfer.proofs.Balance.{at-first}
 use Rattle.transfer.proofs.Calls.{underway}
 use Rattle.transfer.proofs.Exact.{keeps-rules}
 use Rattle.transfer.proofs.Three.{none, unbroken, three}
-use Rattle.transfer.proofs.Words.{Asks, asks, Tally, tallied, says, read-is, Stays, stays}
+use Rattle.transfer.proofs.Asked.{Asks, asks}
+use Rattle.transfer.proofs.Words.{Tally, tallied, says, read-is}
+use Rattle.transfer.proofs.Finished.{Stays, stays}
 use Rattle.send.specs.Send.{headOf, nextCauses, nextStep}
 use Rattle.send.specs.Calls.{Call, plain, next, plainOf, stepOf, run, Typed, AllTyped}
-use Rattle.send.specs.History.{unwritten, shotsOf, history, frames, asked}
+use Rattle.send.specs.History.{unwritten, entriesOf, history, frames, asked}
 use Rattle.send.proofs.Bytes.{entry-frames, the-sent, Outcome, taken, kept, outcome, next-frames}
 use Rattle.send.proofs.Demand.{all-sound}
 use Rattle.send.proofs.Plain.{frame-step, as-plain}
@@ -50,12 +53,12 @@ module _ (bound : ℕ) (s : Transfer) where
   stays-either (next destination source tag body out) typed = as-frame bound s (Stays s) (stays bound s plainly.Call.frame) (λ k e. (refl, refl)) destination source tag body out typed
 
   -- what a call adds to the history
-  added-is : (c : Call) → Typed c → frames (shotsOf bound c s) ≡ entries (plainOf c) (nextFrame s) (stepOf bound c s .answer)
+  added-is : (c : Call) → Typed c → frames (entriesOf bound c s) ≡ entries (plainOf c) (nextFrame s) (stepOf bound c s .answer)
   added-is (plain c) typed = entry-frames c (unwritten s) (plainly.stepOf bound c s .answer)
   added-is (next destination source tag body out) typed = next-frames bound s destination source tag body out typed
 
   -- a frame that it adds
-  pub frame-is : (c : Call) → Typed c → (f : Frame) → frames (shotsOf bound c s) ≡ sent f ∷ [] → f ≡ nextFrame s
+  pub frame-is : (c : Call) → Typed c → (f : Frame) → frames (entriesOf bound c s) ≡ sent f ∷ [] → f ≡ nextFrame s
   frame-is c typed f e = the-sent (plainOf c) (nextFrame s) f (stepOf bound c s .answer) (sym (added-is c typed) ∙ e)
 
   module _ (h : List Entry) (i : Inv bound s (view h)) (w : Tally s h) where

@@ -11,26 +11,26 @@ use Rattle.ssp_frame.specs.declared.data.DataRead.{DataRead}
 use Rattle.ssp_frame.specs.declared.data.DataRead.the-variants.{Frame as Data, Refused as NotData}
 use Rattle.transfer.specs.Calls as plainly
 use Rattle.transfer.specs.Log.{nextFrame}
-use Rattle.transfer.specs.History.{Frame, EntryOf, started, sent, acked, naked, timedOut, wasLost, ended, Entry, entries}
+use Rattle.transfer.specs.History.{Frame, EntryOf, started, sent, acked, nacked, timedOut, wasLost, ended, Entry, entries}
 use Rattle.transfer.specs.Words.{Asked, askedAfter}
 use Rattle.transfer.specs.declared.Transfer.{Transfer}
 use Rattle.send.specs.Send.{changingOf, headOf, nextBytes}
 use Rattle.send.specs.Calls.{Call, plain, next, plainOf, stepOf}
 
 -- what is known of a frame that went: where its data lies, how long it is, its changing data pointer, and the data
-pub record Shot : Type 0 where
+pub record Sent : Type 0 where
   pub at : ℕ
   pub len : ℕ
   pub changing : ℕ
   pub bytes : List ℕ
 
 -- what the DATA reader finds in the bytes of a frame
-abbrev pub found : DataRead → List ℕ → Shot
+abbrev pub found : DataRead → List ℕ → Sent
 found (Data f) frame = record { at = f .head .offset; len = f .length; changing = f .head .changing; bytes = take (f .length) (drop 24 frame) }
 found (NotData k) frame = record { at = 0; len = 0; changing = 0; bytes = [] }
 
 -- a call with n bytes of data writes a frame to the front of its output
-abbrev pub written : ℕ → List ℕ → Shot
+abbrev pub written : ℕ → List ℕ → Sent
 written n out = found (readData (take (frameEnd n) out)) (take (frameEnd n) out)
 
 -- the output as a next-frame call leaves it; a plain call has none
@@ -49,18 +49,18 @@ pub record Addressed (out : List ℕ) (n destination source tag offset : ℕ) : 
   pub long : frame .length ≡ n
 
 -- the frame that a plain frame call sends, of whose bytes nothing is known but what they are to say
-abbrev pub unwritten : Transfer → Shot
+abbrev pub unwritten : Transfer → Sent
 unwritten s = record { at = nextFrame s .at; len = nextFrame s .len; changing = changingOf s; bytes = [] }
 
 -- 01 READ.7: The history holds each frame with the offset in its header and its data length.
-abbrev pub shotsOf : ℕ → Call → Transfer → List (EntryOf Shot)
-shotsOf bound (plain c) s = entries c (unwritten s) (plainly.stepOf bound c s .answer)
-shotsOf bound (next destination source tag body out) s = entries plainly.Call.frame (written (length body) (nextBytes bound s (headOf s destination source tag) body out)) (stepOf bound (next destination source tag body out) s .answer)
+abbrev pub entriesOf : ℕ → Call → Transfer → List (EntryOf Sent)
+entriesOf bound (plain c) s = entries c (unwritten s) (plainly.stepOf bound c s .answer)
+entriesOf bound (next destination source tag body out) s = entries plainly.Call.frame (written (length body) (nextBytes bound s (headOf s destination source tag) body out)) (stepOf bound (next destination source tag body out) s .answer)
 
 -- the history that some calls of s add to h, its latest entry first
-abbrev pub history : ℕ → List Call → Transfer → List (EntryOf Shot) → List (EntryOf Shot)
+abbrev pub history : ℕ → List Call → Transfer → List (EntryOf Sent) → List (EntryOf Sent)
 history bound [] s h = h
-history bound (c ∷ cs) s h = history bound cs (stepOf bound c s .state) (shotsOf bound c s ++ h)
+history bound (c ∷ cs) s h = history bound cs (stepOf bound c s .state) (entriesOf bound c s ++ h)
 
 -- the numbers of the last START that was taken of some calls of s, a where none was
 abbrev pub asked : ℕ → List Call → Transfer → Asked → Asked
@@ -68,19 +68,19 @@ asked bound [] s a = a
 asked bound (c ∷ cs) s a = asked bound cs (stepOf bound c s .state) (askedAfter (plainOf c) (stepOf bound c s .answer) a)
 
 -- offset and length alone, as demand 3 reads them
-abbrev pub frameOf : Shot → Frame
+abbrev pub frameOf : Sent → Frame
 frameOf f = record { at = f .at; len = f .len }
 
-abbrev pub entryOf : EntryOf Shot → Entry
+abbrev pub entryOf : EntryOf Sent → Entry
 entryOf started = started
 entryOf (sent f) = sent (frameOf f)
 entryOf acked = acked
-entryOf naked = naked
+entryOf nacked = nacked
 entryOf timedOut = timedOut
 entryOf wasLost = wasLost
 entryOf ended = ended
 
-abbrev pub frames : List (EntryOf Shot) → List Entry
+abbrev pub frames : List (EntryOf Sent) → List Entry
 frames h = map entryOf h
 
 -- a call that sends no frame without its bytes
@@ -104,6 +104,6 @@ AllFromImage image bound [] s = Unit {0}
 AllFromImage image bound (c ∷ cs) s = FromImage image c s × AllFromImage image bound cs (stepOf bound c s .state)
 
 -- byte x stands in one of the frames, as it stands in the image
-abbrev pub Shown : List ℕ → ℕ → List Shot → Type 0
+abbrev pub Shown : List ℕ → ℕ → List Sent → Type 0
 Shown image x [] = ⊥
 Shown image x (f ∷ fs) = ((f .at ≤ x) × ((x < f .at + f .len) × (getD (f .bytes) (x - f .at) 0 ≡ getD image x 0))) ⊎ Shown image x fs

@@ -72,7 +72,7 @@ pub fn next_frame(
         return stepped;
     }
     let h = head(s, destination, source, tag);
-    if !data::listed(h) {
+    if !data::data_listed(h) {
         return s.refused(Refusal::Unlisted);
     }
     if body.len() != s.frame_length() as usize {

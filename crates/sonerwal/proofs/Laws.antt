@@ -19,7 +19,7 @@ use Rattle.ssp_frame.specs.Data.{dataOf, readData, readCauses as dataReads}
 use Rattle.ssp_frame.specs.declared.data.DataFrame.{DataFrame}
 use Rattle.ssp_frame.specs.declared.data.DataRead.{DataRead}
 use Rattle.ssp_frame.specs.declared.data.DataRead.the-variants.{Frame as Data, Refused as NotData}
-use Rattle.sonerwal.specs.Face.{Called}
+use Rattle.sonerwal.specs.Face.{Read, Called, OpenReads, DataReads}
 
 -- a reader's answer as a number, and the fields that it leaves
 abbrev openNumber : OpenRead → ℕ
@@ -27,60 +27,60 @@ openNumber (Open f) = 0
 openNumber (NotOpen k) = numberOf k
 
 abbrev openLeft : OpenFrame → OpenRead → OpenFrame
-openLeft before (Open f) = f
-openLeft before (NotOpen k) = before
+openLeft lent (Open f) = f
+openLeft lent (NotOpen k) = lent
 
 abbrev dataNumber : DataRead → ℕ
 dataNumber (Data f) = 0
 dataNumber (NotData k) = numberOf k
 
 abbrev dataLeft : DataFrame → DataRead → DataFrame
-dataLeft before (Data f) = f
-dataLeft before (NotData k) = before
+dataLeft lent (Data f) = f
+dataLeft lent (NotData k) = lent
 
-pub open-read : (s : List ℕ) (before : OpenFrame) {a : OpenRead} → a ≡ readOpen s → Called (openReads s) (frameOf s) before (openNumber a) (openLeft before a)
+pub open-read : (s : List ℕ) (lent : OpenFrame) {a : OpenRead} → a ≡ readOpen s → OpenReads (record { frame = s; lent = lent; answer = openNumber a; left = openLeft lent a })
 unfolding readOpen
-open-read s before e = record {
+open-read s lent e = record {
   answer = ap openNumber e ∙ through openNumber NotOpen (openReads s) (Open (frameOf s));
-  lent = ap (openLeft before) e ∙ through (openLeft before) NotOpen (openReads s) (Open (frameOf s));
+  leaves = ap (openLeft lent) e ∙ through (openLeft lent) NotOpen (openReads s) (Open (frameOf s));
 }
 
-pub data-read : (s : List ℕ) (before : DataFrame) {a : DataRead} → a ≡ readData s → Called (dataReads s) (dataOf s) before (dataNumber a) (dataLeft before a)
+pub data-read : (s : List ℕ) (lent : DataFrame) {a : DataRead} → a ≡ readData s → DataReads (record { frame = s; lent = lent; answer = dataNumber a; left = dataLeft lent a })
 unfolding readData
-data-read s before e = record {
+data-read s lent e = record {
   answer = ap dataNumber e ∙ through dataNumber NotData (dataReads s) (Data (dataOf s));
-  lent = ap (dataLeft before) e ∙ through (dataLeft before) NotData (dataReads s) (Data (dataOf s));
+  leaves = ap (dataLeft lent) e ∙ through (dataLeft lent) NotData (dataReads s) (Data (dataOf s));
 }
 
 -- the same of any writer
-pub wrote : {cs : List Cause} {new before after : List ℕ} {w : Written} {r : ℕ} → Wrote cs new before w after → r ≡ answerOf w → Called cs new before r after
-wrote {cs} p e = record { answer = e ∙ ap answerOf (p .answer) ∙ through answerOf NotWritten cs Done; lent = p .bytes }
+pub wrote : {cs : List Cause} {new lent left : List ℕ} {w : Written} {r : ℕ} → Wrote cs new lent w left → r ≡ answerOf w → Called cs new lent r left
+wrote {cs} p e = record { answer = e ∙ ap answerOf (p .answer) ∙ through answerOf NotWritten cs Done; leaves = p .bytes }
 
 -- ---- what C knows by its answer
 
 -- what the reader found
-pub open-told : (s : List ℕ) (before : OpenFrame) {f : OpenFrame} {r : ℕ} {after : OpenFrame} → readOpen s ≡ Open f → Called (openReads s) (frameOf s) before r after → (r ≡ 0) × (after ≡ f)
-open-told s before e c =
-    let is = open-read s before refl in
-    (c .answer ∙ sym (is .answer) ∙ ap openNumber e, c .lent ∙ sym (is .lent) ∙ ap (openLeft before) e)
+pub open-finds : (c : Read ℕ OpenFrame) {f : OpenFrame} → OpenReads c → readOpen (c .frame) ≡ Open f → (c .answer ≡ 0) × (c .left ≡ f)
+open-finds c p e =
+    let is = open-read (c .frame) (c .lent) refl in
+    (p .answer ∙ sym (is .answer) ∙ ap openNumber e, p .leaves ∙ sym (is .leaves) ∙ ap (openLeft (c .lent)) e)
 
-pub data-told : (s : List ℕ) (before : DataFrame) {f : DataFrame} {r : ℕ} {after : DataFrame} → readData s ≡ Data f → Called (dataReads s) (dataOf s) before r after → (r ≡ 0) × (after ≡ f)
-data-told s before e c =
-    let is = data-read s before refl in
-    (c .answer ∙ sym (is .answer) ∙ ap dataNumber e, c .lent ∙ sym (is .lent) ∙ ap (dataLeft before) e)
+pub data-finds : (c : Read ℕ DataFrame) {f : DataFrame} → DataReads c → readData (c .frame) ≡ Data f → (c .answer ≡ 0) × (c .left ≡ f)
+data-finds c p e =
+    let is = data-read (c .frame) (c .lent) refl in
+    (p .answer ∙ sym (is .answer) ∙ ap dataNumber e, p .leaves ∙ sym (is .leaves) ∙ ap (dataLeft (c .lent)) e)
 
 -- a writer that answers 0 is done
 zero-done : (w : Written) → answerOf w ≡ 0 → w ≡ Done
 zero-done Done e = refl
 zero-done (NotWritten k) e = absurd (not-zero k (sym e))
 
-module _ {cs : List Cause} {new before after : List ℕ} {r : ℕ} (c : Called cs new before r after) where
-  pub writes : Wrote cs new before (refuse NotWritten cs Done) after
-  writes = record { answer = refl; bytes = c .lent }
+module _ {cs : List Cause} {new lent left : List ℕ} {r : ℕ} (c : Called cs new lent r left) where
+  pub writes : Wrote cs new lent (refuse NotWritten cs Done) left
+  writes = record { answer = refl; bytes = c .leaves }
 
   pub done-writing : r ≡ 0 → refuse NotWritten cs Done ≡ Done
   done-writing e = zero-done (refuse NotWritten cs Done) (through answerOf NotWritten cs Done ∙ sym (c .answer) ∙ e)
 
 -- a writer that passes both tests answers 0 and leaves the new bytes
-pub written : (new before : List ℕ) {s t : Bool} {r : ℕ} {after : List ℕ} → Called (bufferCauses s t) new before r after → s ≡ true → t ≡ true → (r ≡ 0) × (after ≡ new)
-written new before c sized listed = (c .answer ∙ sym (by-none numberOf 0 sized listed), c .lent ∙ sym (by-none (λ _. before) new sized listed))
+pub written : (new lent : List ℕ) {s t : Bool} {r : ℕ} {left : List ℕ} → Called (bufferCauses s t) new lent r left → s ≡ true → t ≡ true → (r ≡ 0) × (left ≡ new)
+written new lent c sized listed = (c .answer ∙ sym (by-none numberOf 0 sized listed), c .leaves ∙ sym (by-none (λ _. lent) new sized listed))

@@ -1,8 +1,6 @@
 // 01 DATA.5: C firmware of the board calls the frame readers and writers.
 // What C calls, as include/sonerwal.h declares it: byte slices and numbers, and 0 or a refusal's number as the answer.
-ghost use Rattle.open_frame.specs.Open.{frameOf, openBytes, readCauses as openReads, writeCauses as openWrites};
-ghost use Rattle.ssp_frame.specs.Data.{dataOf, dataLeft, readCauses as dataReads, writeCauses as dataWrites};
-ghost use Rattle.sonerwal.specs.Face.{Called, open9, data5, data6};
+ghost use Rattle.sonerwal.specs.Face.{open9, openLent, dataLent, dataGiven, reading, writing, OpenReads, OpenWrites, DataReads, DataWrites};
 use open_frame::Awt;
 use open_frame::Head;
 use open_frame::OpenFrame;
@@ -27,7 +25,7 @@ pub extern "C" fn sas_open_read(
     pbc: &mut u8,
     awt: &mut u16,
 ) -> u8
-    ensures { λ r. ⌜ Called (openReads (now (frame .entry))) (frameOf (now (frame .entry))) (open9 (now (initiator .entry)) (now (protocol .entry)) (now (features .entry)) (now (rate .entry)) (now (tag .entry)) (now (destination .entry)) (now (source .entry)) (now (pbc .entry)) (now (awt .entry))) r (open9 (now (initiator .exit)) (now (protocol .exit)) (now (features .exit)) (now (rate .exit)) (now (tag .exit)) (now (destination .exit)) (now (source .exit)) (now (pbc .exit)) (now (awt .exit))) ⌝ }
+    ensures { λ r. ⌜ OpenReads (reading frame (openLent initiator protocol features rate tag destination source pbc awt) r) ⌝ }
 {
     match open_frame::read_open(frame) {
         OpenRead::Frame(f) => {
@@ -60,7 +58,7 @@ pub extern "C" fn sas_open_write(
     awt: u16,
     frame: &mut [u8],
 ) -> u8
-    ensures { λ r. ⌜ Called (openWrites (open9 initiator protocol features rate tag destination source pbc awt) (now (frame .entry))) (openBytes (open9 initiator protocol features rate tag destination source pbc awt)) (now (frame .entry)) r (now (frame .exit)) ⌝ }
+    ensures { λ r. ⌜ OpenWrites (writing (open9 initiator protocol features rate tag destination source pbc awt) frame r) ⌝ }
 {
     let f = OpenFrame {
         head: Head {
@@ -89,7 +87,7 @@ pub extern "C" fn sas_data_read(
     offset: &mut u32,
     length: &mut u16,
 ) -> u8
-    ensures { λ r. ⌜ Called (dataReads (now (frame .entry))) (dataOf (now (frame .entry))) (data6 (now (destination .entry)) (now (source .entry)) (now (changing .entry)) (now (tag .entry)) (now (offset .entry)) (now (length .entry))) r (data6 (now (destination .exit)) (now (source .exit)) (now (changing .exit)) (now (tag .exit)) (now (offset .exit)) (now (length .exit))) ⌝ }
+    ensures { λ r. ⌜ DataReads (reading frame (dataLent destination source changing tag offset length) r) ⌝ }
 {
     match data::read_data(frame) {
         DataRead::Frame(f) => {
@@ -116,7 +114,7 @@ pub extern "C" fn sas_data_write(
     body: &[u8],
     frame: &mut [u8],
 ) -> u8
-    ensures { λ r. ⌜ Called (dataWrites (data5 destination source changing tag offset) (now (body .entry)) (now (frame .entry))) (dataLeft (data5 destination source changing tag offset) (now (body .entry)) (now (frame .entry))) (now (frame .entry)) r (now (frame .exit)) ⌝ }
+    ensures { λ r. ⌜ DataWrites (writing (dataGiven destination source changing tag offset body) frame r) ⌝ }
 {
     let h = DataHead {
         destination,

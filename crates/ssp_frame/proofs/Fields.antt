@@ -8,7 +8,7 @@ use lib.ListN.{getD}
 use borrow.Author.Tests.{eqb-true, ltb-true, leb-true, eq-eqb, lt-ltb, le-leb}
 use Rattle.laws.proofs.Bools.{and-left, and-right, and-true}
 use Rattle.wire.specs.Be.{beAt}
-use Rattle.ssp_frame.specs.Header.{headerOf, blank}
+use Rattle.ssp_frame.specs.Header.{headerOf, isBlank}
 use Rattle.ssp_frame.specs.Data.{frameEnd, dataSized, dataListed, frameSized, kindListed}
 use Rattle.ssp_frame.specs.declared.data.DataHead.{DataHead}
 
@@ -76,12 +76,12 @@ pub record Laid (s : List ℕ) : Type 0 where
   pub bits : getD s 10 0 < 2
   pub ones : beAt s 18 2 ≡ 65535
 
-pub laid : (s : List ℕ) → blank s && kindListed (headerOf s) ≡ true → Laid s
+pub laid : (s : List ℕ) → isBlank s && kindListed (headerOf s) ≡ true → Laid s
 laid s h =
-    let b1 = and-left (blank s) _ h in
+    let b1 = and-left (isBlank s) _ h in
     let b2 = and-right (eqb (getD s 4 0) 0) _ b1 in
     let b3 = and-right (eqb (beAt s 8 2) 0) _ b2 in
-    let k1 = and-right (blank s) _ h in
+    let k1 = and-right (isBlank s) _ h in
     let k2 = and-right (eqb (getD s 0 0) 1) _ k1 in
     record {
       gap = eqb-true (getD s 4 0) 0 (and-left (eqb (getD s 4 0) 0) _ b1);
@@ -93,7 +93,7 @@ laid s h =
       ones = eqb-true (beAt s 18 2) 65535 (and-right (ltb (getD s 10 0) 2) _ k2);
     }
 
-pub is-laid : (s : List ℕ) → Laid s → blank s && kindListed (headerOf s) ≡ true
+pub is-laid : (s : List ℕ) → Laid s → isBlank s && kindListed (headerOf s) ≡ true
 is-laid s l =
     and-true
     (and-true (eq-eqb (getD s 4 0) 0 (l .gap))

@@ -15,7 +15,7 @@ use Rattle.wire.specs.Fields.{layBytes}
 use Rattle.wire.proofs.Laws.{beAt-lt, zeros, zeros-behind, known-back}
 use Rattle.refusals.proofs.Frames.{by-none, passed}
 use Rattle.refusals.specs.declared.Refusal.{Refusal}
-use Rattle.ssp_frame.specs.Header.{headerFields, headerOf, blank}
+use Rattle.ssp_frame.specs.Header.{headerFields, headerOf, isBlank}
 use Rattle.ssp_frame.specs.Data.{fillOf, frameEnd, dataHeader, dataBytes, Typed, frameSized, kindListed, filled, dataOf, readData}
 use Rattle.ssp_frame.specs.declared.header.Header.{Header}
 use Rattle.ssp_frame.specs.declared.data.DataHead.{DataHead}
@@ -64,7 +64,7 @@ read-written h body l t some few =
     let back : headerOf s ≡ dataHeader h f = header-back (dataHeader h f) payload (widths h f l t (omega arith)) in
     let count : getD s 11 0 ≡ f = ap (λ (g : Header). g .fill) back in
     let size : frameSized (length s) ≡ true = is-sized (length s) (record { least = omega (arith, long); most = omega (arith, long); four = omega (arith, long) }) in
-    let fine : blank s && kindListed (headerOf s) ≡ true = is-laid s (record {
+    let fine : isBlank s && kindListed (headerOf s) ≡ true = is-laid s (record {
       gap = refl;
       pair = refl;
       fill = omega (arith, count);
@@ -92,7 +92,7 @@ apart f k e = let z : _≡_ {A = ℕ} 0 1 = cc in omega arith
 pub found : (s : List ℕ) (f : DataFrame) → readData s ≡ Frame f → Found s f
 unfolding readData
 found s f e =
-    let fine = blank s && kindListed (headerOf s) in
+    let fine = isBlank s && kindListed (headerOf s) in
     let p = passed Refused (Frame (dataOf s)) (Frame f) (apart f) (frameSized (length s)) (fine && filled s) e in
     record {
       size = sized (length s) (p .0);

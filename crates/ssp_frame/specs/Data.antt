@@ -7,7 +7,7 @@ use lib.Dec.{eqb, ltb, leb}
 use Rattle.wire.specs.Be.{beAt}
 use Rattle.wire.specs.Fields.{layBytes}
 use Rattle.refusals.specs.Causes.{Cause, refuse, bufferCauses}
-use Rattle.ssp_frame.specs.Header.{headerFields, headerOf, blank}
+use Rattle.ssp_frame.specs.Header.{headerFields, headerOf, isBlank}
 use Rattle.ssp_frame.specs.declared.header.Header.{Header}
 use Rattle.ssp_frame.specs.declared.data.DataHead.{DataHead}
 use Rattle.ssp_frame.specs.declared.data.DataFrame.{DataFrame}
@@ -80,7 +80,7 @@ filled s = eqb (beAt s (length s - getD s 11 0) (getD s 11 0)) 0
 
 -- 01 DATA.4: any header byte off this layout or fill not zero is 2
 abbrev pub readCauses : List ℕ → List Cause
-readCauses s = bufferCauses (frameSized (length s)) ((blank s && kindListed (headerOf s)) && filled s)
+readCauses s = bufferCauses (frameSized (length s)) ((isBlank s && kindListed (headerOf s)) && filled s)
 
 abbrev pub dataOf : List ℕ → DataFrame
 dataOf s = record {

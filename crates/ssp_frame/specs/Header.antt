@@ -38,5 +38,5 @@ headerOf s = record {
 }
 
 -- "the rest zero": the bytes between the fields, and the high bits of byte 11
-abbrev pub blank : List ℕ → Bool
-blank s = eqb (getD s 4 0) 0 && (eqb (beAt s 8 2) 0 && (ltb (getD s 11 0) 4 && eqb (beAt s 12 4) 0))
+abbrev pub isBlank : List ℕ → Bool
+isBlank s = eqb (getD s 4 0) 0 && (eqb (beAt s 8 2) 0 && (ltb (getD s 11 0) 4 && eqb (beAt s 12 4) 0))

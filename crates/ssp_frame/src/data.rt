@@ -51,13 +51,13 @@ fn data_sized(n: usize, m: usize) -> bool
 }
 
 // Whether these are fields of DATA.
-pub fn listed(h: DataHead) -> bool
+pub fn data_listed(h: DataHead) -> bool
     ensures { λ r. ⌜ r ≡ dataListed h ⌝ }
 {
-    (h.destination < 16777216) & ((h.source < 16777216) & (h.changing < 2))
+    (h.destination < 0x1000000) & ((h.source < 0x1000000) & (h.changing < 2))
 }
 
-fn header_for(h: DataHead, fill: u8) -> Header
+fn data_header(h: DataHead, fill: u8) -> Header
     ensures { λ r. ⌜ r ≡ dataHeader h fill ⌝ }
 {
     Header {
@@ -67,7 +67,7 @@ fn header_for(h: DataHead, fill: u8) -> Header
         bits: h.changing,
         fill,
         tag: h.tag,
-        transfer: 65535,
+        transfer: 0xffff,
         offset: h.offset,
     }
 }
@@ -104,11 +104,11 @@ pub fn write_data(h: DataHead, body: &[u8], out: &mut [u8]) -> Written
     if !data_sized(n, out.len()) {
         return Written::Refused(Refusal::Length);
     }
-    if !listed(h) {
+    if !data_listed(h) {
         return Written::Refused(Refusal::Unlisted);
     }
     let fill = fill_of(n);
-    header::put_header(header_for(h, fill as u8), out);
+    header::put_header(data_header(h, fill as u8), out);
     put_payload(body, fill, &mut out[24..]);
     Written::Done
 }
@@ -124,7 +124,7 @@ fn frame_sized(n: usize) -> bool
 fn kind_listed(h: Header) -> bool
     ensures { λ r. ⌜ r ≡ kindListed h ⌝ }
 {
-    (h.kind == 1) & ((h.bits < 2) & (h.transfer == 65535))
+    (h.kind == 1) & ((h.bits < 2) & (h.transfer == 0xffff))
 }
 
 // Whether the last fill bytes of a word are zero.
@@ -135,8 +135,8 @@ fn ends_zero(word: u64, fill: u8) -> bool
     match fill {
         0 => true,
         1 => word % 256 == 0,
-        2 => word % 65536 == 0,
-        _ => word % 16777216 == 0,
+        2 => word % 0x10000 == 0,
+        _ => word % 0x1000000 == 0,
     }
 }
 

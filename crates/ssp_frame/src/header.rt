@@ -4,7 +4,7 @@ ghost use mathlib.Core.List.{_++_};
 ghost use Prim.Native.Nat.{_≤_};
 ghost use lib.ListN.{length, drop};
 ghost use Rattle.wire.specs.Fields.{layBytes};
-ghost use Rattle.ssp_frame.specs.Header.{headerFields, headerOf, blank};
+ghost use Rattle.ssp_frame.specs.Header.{headerFields, headerOf, isBlank};
 
 pub struct Header {
     // The frame's type.
@@ -27,13 +27,13 @@ pub(crate) fn put_header(h: Header, out: &mut [u8])
     requires { ⌜ 24 ≤ length (now out) ⌝ }
     ensures { λ _. ⌜ now (out .exit) ≡ layBytes (headerFields h) ++ drop 24 (now (out .entry)) ⌝ }
 {
-    let destination = h.destination % 16777216;
-    let source = h.source % 16777216;
-    wire::put_be(out, 0, 4, h.kind as u64 * 16777216 + destination as u64);
+    let destination = h.destination % 0x1000000;
+    let source = h.source % 0x1000000;
+    wire::put_be(out, 0, 4, h.kind as u64 * 0x1000000 + destination as u64);
     wire::put_be(out, 4, 4, source as u64);
     wire::put_be(out, 8, 4, h.bits as u64 * 256 + h.fill as u64);
     wire::put_be(out, 12, 4, 0);
-    wire::put_be(out, 16, 4, h.tag as u64 * 65536 + h.transfer as u64);
+    wire::put_be(out, 16, 4, h.tag as u64 * 0x10000 + h.transfer as u64);
     wire::put_be(out, 20, 4, h.offset as u64);
 }
 
@@ -46,13 +46,13 @@ pub(crate) fn header_of(s: &[u8]) -> Header
     let bits = wire::get_be(s, 8, 4);
     let tags = wire::get_be(s, 16, 4);
     Header {
-        kind: (to / 16777216) as u8,
-        destination: (to % 16777216) as u32,
-        source: (from % 16777216) as u32,
+        kind: (to / 0x1000000) as u8,
+        destination: (to % 0x1000000) as u32,
+        source: (from % 0x1000000) as u32,
         bits: (bits / 256 % 256) as u8,
         fill: (bits % 256) as u8,
-        tag: (tags / 65536) as u16,
-        transfer: (tags % 65536) as u16,
+        tag: (tags / 0x10000) as u16,
+        transfer: (tags % 0x10000) as u16,
         offset: wire::get_be(s, 20, 4) as u32,
     }
 }
@@ -60,10 +60,10 @@ pub(crate) fn header_of(s: &[u8]) -> Header
 // Whether the bytes and bits of no field are zero.
 pub(crate) fn is_blank(s: &[u8]) -> bool
     requires { ⌜ 24 ≤ length (now s) ⌝ }
-    ensures { λ r. ⌜ r ≡ blank (now (s .entry)) ⌝ }
+    ensures { λ r. ⌜ r ≡ isBlank (now (s .entry)) ⌝ }
 {
     let from = wire::get_be(s, 4, 4);
     let bits = wire::get_be(s, 8, 4);
-    (from / 16777216 == 0)
-        & ((bits / 65536 == 0) & ((bits % 256 < 4) & (wire::get_be(s, 12, 4) == 0)))
+    (from / 0x1000000 == 0)
+        & ((bits / 0x10000 == 0) & ((bits % 256 < 4) & (wire::get_be(s, 12, 4) == 0)))
 }

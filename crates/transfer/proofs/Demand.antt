@@ -9,7 +9,7 @@ use lib.ListN.{length}
 use borrow.Author.Tests.{not-false}
 use Rattle.laws.proofs.Bools.{never, by-test, impossible}
 use Rattle.transfer.specs.Rules.{endOf, before}
-use Rattle.transfer.specs.Steps.{unfinished, draining, started, frameLength, framed, answered, allSent, settled, drained, acked, naked, dropped}
+use Rattle.transfer.specs.Steps.{unfinished, draining, started, frameLength, framed, answered, allSent, settled, drained, acked, nacked, dropped}
 use Rattle.transfer.specs.Steps.{ended, refused, say, startCauses, frameCauses, answerCauses, endCauses, startStep, frameStep, ackStep, nakStep}
 use Rattle.transfer.specs.Steps.{dropStep, endStep}
 use Rattle.transfer.specs.Calls.{Call, start, frame, ack, nak, timeout, lost, nexus, cancel, stepOf, run}
@@ -22,7 +22,8 @@ use Rattle.transfer.specs.declared.Answer.{Answer}
 use Rattle.transfer.specs.declared.Phase.{Phase}
 use Rattle.refusals.proofs.Causes.{by-causes}
 use Rattle.transfer.proofs.Calls.{run-phase, work}
-use Rattle.transfer.proofs.Balance.{Inv, Live, Over, Settled, onto, onto-length, running, settled-now, count, keeps, all-keep, at-first}
+use Rattle.transfer.proofs.Invariant.{Inv, Live, Over, Settled, onto, onto-length, running, settled-now, count}
+use Rattle.transfer.proofs.Balance.{keeps, all-keep, at-first}
 
 abbrev pub isDone : Answer → Bool
 isDone Answer.Ok = false
@@ -55,8 +56,8 @@ module _ (bound : ℕ) (s : Transfer) where
       (λ d. by-test (Says s) (eqb (s .unanswered - 1) 0)
       (λ t. by-test (Says s) (allSent s) (λ q e. record { phase = refl; offset = refl; end = refl }) (λ q. impossible)) (λ t. impossible))
 
-  says-nak : Says s (naked (answered s))
-  unfolding naked
+  says-nak : Says s (nacked (answered s))
+  unfolding nacked
   says-nak = by-test (Says s) (leb (s .resends) (s .used)) (λ t. impossible) (λ t. says-drain)
 
   says-drop : Says s (dropped s)
@@ -68,7 +69,7 @@ module _ (bound : ℕ) (s : Transfer) where
   says (start b n m r) = by-causes (Says s) (refused s) (λ k. impossible) (startCauses bound b n m r s) (say Answer.Ok (started b n m r)) (λ off. impossible)
   says frame = by-causes (Says s) (refused s) (λ k. impossible) (frameCauses bound s) (framed (frameLength s) s) (λ off. impossible)
   says ack = by-causes (Says s) (refused s) (λ k. impossible) (answerCauses bound s) (acked (answered s)) (λ off. says-ack)
-  says nak = by-causes (Says s) (refused s) (λ k. impossible) (answerCauses bound s) (naked (answered s)) (λ off. says-nak)
+  says nak = by-causes (Says s) (refused s) (λ k. impossible) (answerCauses bound s) (nacked (answered s)) (λ off. says-nak)
   says timeout = by-causes (Says s) (refused s) (λ k. impossible) (answerCauses bound s) (dropped s) (λ off. says-drop)
   says lost = by-causes (Says s) (refused s) (λ k. impossible) (answerCauses bound s) (dropped s) (λ off. says-drop)
   says nexus = by-causes (Says s) (refused s) (λ k. impossible) (endCauses bound s) (ended s) (λ off. impossible)

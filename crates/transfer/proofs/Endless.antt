@@ -11,7 +11,7 @@ use borrow.Author.Tests.{eqb-false, not-false}
 use Rattle.laws.proofs.Bools.{by-test}
 use Rattle.refusals.specs.Causes.{refuse}
 use Rattle.transfer.specs.Rules.{endOf, before, frames}
-use Rattle.transfer.specs.Steps.{draining, started, frameLength, framed, answered, allSent, settled, drained, acked, naked, dropped, ended}
+use Rattle.transfer.specs.Steps.{draining, started, frameLength, framed, answered, allSent, settled, drained, acked, nacked, dropped, ended}
 use Rattle.transfer.specs.Steps.{refused, say, startCauses, frameCauses, answerCauses, endCauses, startStep, frameStep, ackStep, nakStep}
 use Rattle.transfer.specs.Steps.{dropStep, endStep}
 use Rattle.transfer.specs.Calls.{Call, start, frame, ack, nak, timeout, lost, nexus, cancel, stepOf, run}
@@ -85,8 +85,8 @@ module _ (bound : ℕ) (s : Transfer) (h : List Entry) (i : Good bound s) (few :
       by-test (After s h ack) (draining (s .phase)) (λ d. drains ack refl refl w)
       (λ d. by-test (After s h ack) (eqb (s .unanswered - 1) 0) (λ t. by-test (After s h ack) (allSent s) (λ q. few) (λ q. few)) (λ t. few))
 
-  naks : Live bound s → After s h nak (naked (answered s))
-  unfolding naked
+  naks : Live bound s → After s h nak (nacked (answered s))
+  unfolding nacked
   naks w = by-test (After s h nak) (leb (s .resends) (s .used)) (λ t. few) (λ t. drains nak refl refl w)
 
   -- TIMEOUT and LOST alike
@@ -113,7 +113,7 @@ module _ (bound : ℕ) (s : Transfer) (h : List Entry) (i : Good bound s) (few :
   few-step (start b n m r) = by-causes (After s h (start b n m r)) (refused s) (λ k. few) (startCauses bound b n m r s) (say Answer.Ok (started b n m r)) (λ off. omega arith)
   few-step frame = goes
   few-step ack = answer ack (acked (answered s)) acks
-  few-step nak = answer nak (naked (answered s)) naks
+  few-step nak = answer nak (nacked (answered s)) naks
   few-step timeout = answer timeout (dropped s) (drops timeout refl refl)
   few-step lost = answer lost (dropped s) (drops lost refl refl)
   few-step nexus = by-causes (After s h nexus) (refused s) (λ k. few) (endCauses bound s) (ended s) (λ off. few)

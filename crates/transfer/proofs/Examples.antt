@@ -7,7 +7,7 @@ use lib.Dec.{eqb}
 use lib.ListN.{replicate}
 use Rattle.laws.proofs.Bools.{by-test}
 use Rattle.transfer.specs.Rules.{before, placed, phaseRule, rules}
-use Rattle.transfer.specs.Steps.{limit, answered, settled, drained, acked, naked, draining, refused, answerCauses, startStep, frameStep, ackStep, nakStep}
+use Rattle.transfer.specs.Steps.{limit, answered, settled, drained, acked, nacked, draining, refused, answerCauses, startStep, frameStep, ackStep, nakStep}
 use Rattle.transfer.specs.Calls.{Call, start, frame, stepOf, run}
 use Rattle.transfer.specs.Examples.{listing, listed, output, inRanges, pastRanges}
 use Rattle.transfer.specs.declared.Transfer.{Transfer}
@@ -18,7 +18,7 @@ use Rattle.refusals.proofs.Causes.{by-causes}
 
 -- 01 EXAMPLE.5
 pub p10 : listing limit 1 listed before ≡ output
-unfolding stepOf startStep frameStep ackStep nakStep settled drained acked naked rules placed phaseRule
+unfolding stepOf startStep frameStep ackStep nakStep settled drained acked nacked rules placed phaseRule
 p10 = refl
 
 -- 01 EXAMPLE.6

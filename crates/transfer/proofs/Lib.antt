@@ -1,9 +1,13 @@
 -- What the proofs of several functions cite, and the crates above.
 pub mod Facts
 pub mod Calls
+pub mod Invariant
+mod Effects
 pub mod Balance
 pub mod Demand
+pub mod Asked
 pub mod Words
+pub mod Finished
 pub mod Shape
 pub mod Sound
 mod Moves

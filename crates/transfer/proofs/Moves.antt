@@ -9,7 +9,7 @@ use lib.Dec.{eqb}
 use borrow.Author.Tests.{lt-leb, le-leb, eq-eqb, ne-eqb}
 use Rattle.laws.proofs.Bools.{clash}
 use Rattle.transfer.specs.Rules.{endOf, before, rules}
-use Rattle.transfer.specs.Steps.{with, settled, drained, acked, naked, dropped, startStep, frameStep, ackStep, nakStep, dropStep, endStep}
+use Rattle.transfer.specs.Steps.{with, settled, drained, acked, nacked, dropped, startStep, frameStep, ackStep, nakStep, dropStep, endStep}
 use Rattle.transfer.specs.Calls.{start, frame, ack, nak, timeout, cancel, stepOf}
 use Rattle.transfer.specs.Grounds.{InRange}
 use Rattle.transfer.specs.declared.Transfer.{Transfer}
@@ -99,21 +99,21 @@ module _ (bound : ℕ) (s : Transfer) (h : InRange (s .offset) (s .count) (s .si
 
   pub nak-one : (k f : ℕ) (sent : Bool) (used : ℕ) → rules bound (at s k f 1 sent used Phase.Run) ≡ true → used < s .resends → k * s .size < s .count
       → stepOf bound nak (at s k f 1 sent used Phase.Run) .state ≡ at s k 0 0 false (used + 1) Phase.Run
-  unfolding stepOf nakStep naked drained
+  unfolding stepOf nakStep nacked drained
   nak-one k f sent used v u a =
       let e : s .offset + k * s .size ≡ place s (k + 0) = omega arith in
       rw (v, lt-leb (s .resends) used u) (alike s e refl refl)
 
   pub nak-drain : (k f d used : ℕ) → rules bound (at s k f (suc (suc d)) true used Phase.Run) ≡ true → used < s .resends
       → stepOf bound nak (at s k f (suc (suc d)) true used Phase.Run) .state ≡ at s k f (suc d) true used Phase.Drain
-  unfolding stepOf nakStep naked drained
+  unfolding stepOf nakStep nacked drained
   nak-drain k f d used v u =
       let e : suc (suc d) - 1 ≡ suc d = omega arith in
       rw (v, ne-eqb (suc (suc d)) 0 (λ z. omega arith), lt-leb (s .resends) used u, ne-eqb (suc (suc d) - 1) 0 (λ z. omega arith)) (alike s refl refl e)
 
   pub nak-fail : (k f used : ℕ) → rules bound (at s k f 1 true used Phase.Run) ≡ true → s .resends ≤ used
       → stepOf bound nak (at s k f 1 true used Phase.Run) .state ≡ at s k f 0 true used Phase.Fail
-  unfolding stepOf nakStep naked drained
+  unfolding stepOf nakStep nacked drained
   nak-fail k f used v u = rw (v, le-leb (s .resends) used u)
 
   pub cancel-step : (k f due : ℕ) (sent : Bool) (used : ℕ) → rules bound (at s k f due sent used Phase.Run) ≡ true

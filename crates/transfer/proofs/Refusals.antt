@@ -11,7 +11,7 @@ use Rattle.refusals.specs.Causes.{Cause, refuse, First, Decides, nil, cons}
 use Rattle.refusals.specs.declared.Refusal.{Refusal}
 use Rattle.refusals.proofs.Causes as causes
 use Rattle.transfer.specs.Rules.{endOf, rules}
-use Rattle.transfer.specs.Steps.{unfinished, draining, started, frameLength, framed, answered, allSent, settled, drained, acked, naked, dropped}
+use Rattle.transfer.specs.Steps.{unfinished, draining, started, frameLength, framed, answered, allSent, settled, drained, acked, nacked, dropped}
 use Rattle.transfer.specs.Steps.{ended, refused, say, startCauses, frameCauses, answerCauses, endCauses, startStep, frameStep, ackStep, nakStep}
 use Rattle.transfer.specs.Steps.{dropStep, endStep}
 use Rattle.transfer.specs.Calls.{Call, start, frame, ack, nak, timeout, lost, nexus, cancel, stepOf}
@@ -71,7 +71,7 @@ pub goesOn : Call → Transfer → Stepped
 goesOn (start b n m r) s = say Answer.Ok (started b n m r)
 goesOn frame s = framed (frameLength s) s
 goesOn ack s = acked (answered s)
-goesOn nak s = naked (answered s)
+goesOn nak s = nacked (answered s)
 goesOn timeout s = dropped s
 goesOn lost s = dropped s
 goesOn nexus s = ended s
@@ -101,7 +101,7 @@ drop-taken s = by-test Taken (leb (s .resends) (s .used)) (λ t. refl) (λ t. re
 
 -- what goes on is no refusal
 pub taken : (c : Call) (s : Transfer) → Taken (goesOn c s)
-unfolding goesOn acked settled naked
+unfolding goesOn acked settled nacked
 taken (start b n m r) s = refl
 taken frame s = refl
 taken ack s =

@@ -13,7 +13,7 @@ use Rattle.refusals.specs.Causes.{refuse}
 use Rattle.refusals.specs.Refusals.{numberOf}
 use Rattle.refusals.proofs.Causes.{by-causes, through}
 use Rattle.transfer.specs.Rules.{endOf, inRange, before, framesOut, rules}
-use Rattle.transfer.specs.Steps.{unfinished, draining, started, frameLength, framed, answered, allSent, settled, drained, acked, naked, dropped, ended}
+use Rattle.transfer.specs.Steps.{unfinished, draining, started, frameLength, framed, answered, allSent, settled, drained, acked, nacked, dropped, ended}
 use Rattle.transfer.specs.Steps.{refused, say, startCauses, frameCauses, answerCauses, endCauses, startStep, frameStep, ackStep, nakStep}
 use Rattle.transfer.specs.Steps.{dropStep, endStep}
 use Rattle.transfer.specs.Calls.{Call, start, frame, ack, nak, timeout, lost, nexus, cancel, stepOf, run}
@@ -27,7 +27,8 @@ use Rattle.transfer.specs.declared.Phase.{Phase}
 use Rattle.transfer.proofs.Facts.{PhaseRule}
 use Rattle.transfer.proofs.Calls.{run-phase, work, some-left}
 use Rattle.transfer.proofs.Calls as known
-use Rattle.transfer.proofs.Balance.{Inv, EndsAt, count, keeps, at-first}
+use Rattle.transfer.proofs.Invariant.{Inv, EndsAt, count}
+use Rattle.transfer.proofs.Balance.{keeps, at-first}
 use Rattle.transfer.proofs.Demand.{unsent}
 use Rattle.transfer.proofs.Refusals.{causesOf, goesOn, step-is, taken}
 use Rattle.transfer.proofs.Words.{Tally, tallies, nak-seen, spent-is, due-is, whole-is, at-start}
@@ -71,8 +72,8 @@ module _ (bound : ℕ) (s : Transfer) (h : List Entry) (i : Inv bound s (view h)
     unfolding acked
     ack-lasts = by-test (Lasts s h ack) (draining (s .phase)) drain-lasts run-lasts
 
-    nak-lasts : Lasts s h nak (naked (answered s))
-    unfolding naked drained
+    nak-lasts : Lasts s h nak (nacked (answered s))
+    unfolding nacked drained
     nak-lasts =
         by-test (Lasts s h nak) (leb (s .resends) (s .used)) (λ q. rw (sym (spent-is bound s h i w u) ∙ q))
         (λ q. by-test (Lasts s h nak) (eqb (s .unanswered - 1) 0) (λ t. rw (sym (spent-is bound s h i w u) ∙ q)) (λ t. rw (sym (spent-is bound s h i w u) ∙ q)))
@@ -91,7 +92,7 @@ module _ (bound : ℕ) (s : Transfer) (h : List Entry) (i : Inv bound s (view h)
   lasts (start b n m r) = by-causes (Lasts s h (start b n m r)) (refused s) (λ k. l) (startCauses bound b n m r s) (say Answer.Ok (started b n m r)) (λ off. refl)
   lasts frame = by-causes (Lasts s h frame) (refused s) (λ k. l) (frameCauses bound s) (framed (frameLength s) s) (λ off. not-false _ (off .1 .0))
   lasts ack = answers ack (acked (answered s)) ack-lasts
-  lasts nak = answers nak (naked (answered s)) nak-lasts
+  lasts nak = answers nak (nacked (answered s)) nak-lasts
   lasts timeout = answers timeout (dropped s) (λ u some. drop-lasts u some timeout refl)
   lasts lost = answers lost (dropped s) (λ u some. drop-lasts u some lost refl)
   lasts nexus = by-causes (Lasts s h nexus) (refused s) (λ k. l) (endCauses bound s) (ended s) (λ off. refl)

@@ -13,7 +13,7 @@ use Rattle.refusals.specs.Causes.{refuse}
 use Rattle.refusals.specs.declared.Refusal.{Refusal}
 use Rattle.transfer.specs.Rules.{endOf, before}
 use Rattle.transfer.specs.Steps.{unfinished, draining, started, frameLength, framed, finished, answered, balanced, allSent, settled, drained}
-use Rattle.transfer.specs.Steps.{acked, naked, dropped, ended, inPhase, refused, with, say, startCauses, frameCauses, answerCauses, endCauses}
+use Rattle.transfer.specs.Steps.{acked, nacked, dropped, ended, inPhase, refused, with, say, startCauses, frameCauses, answerCauses, endCauses}
 use Rattle.transfer.specs.Steps.{startStep, frameStep, ackStep, nakStep, dropStep, endStep}
 use Rattle.transfer.specs.Calls.{Call, start, frame, ack, nak, timeout, lost, nexus, cancel, stepOf, run}
 use Rattle.transfer.specs.Grounds.{InRange}
@@ -186,8 +186,8 @@ module _ (bound : ℕ) (s : Transfer) (i : Good bound s) where
       (λ t. settles bound s (w .k) (w .f) o (eqb-true _ _ t) e)
       (λ t. fewer-run bound s (w .k) (w .f) o (two-left bound s (eqb-false _ _ t)) e))
 
-  naks : unfinished (s .phase) ≡ true → 0 < s .unanswered → Leaves bound (naked (answered s))
-  unfolding naked
+  naks : unfinished (s .phase) ≡ true → 0 < s .unanswered → Leaves bound (nacked (answered s))
+  unfolding nacked
   naks u some =
       let w = live u in
       let o = out-of bound s w some (work (s .phase) u) in
@@ -236,7 +236,7 @@ module _ (bound : ℕ) (s : Transfer) (i : Good bound s) where
   step-good (start b n m r) = begins b n m r
   step-good frame = sends
   step-good ack = answer (acked (answered s)) acks
-  step-good nak = answer (naked (answered s)) naks
+  step-good nak = answer (nacked (answered s)) naks
   step-good timeout = answer (dropped s) drops
   step-good lost = answer (dropped s) drops
   step-good nexus = finish

@@ -8,64 +8,27 @@ use mathlib.Core.Path.{_≡_, refl, sym, ap, subst, _∙_}
 use native.Mathlib.Omega.{arith}
 use lib.Dec.{leb, eqb}
 use lib.ListN.{length}
-use borrow.Author.Tests.{eqb-true, eqb-false, eq-eqb, ne-eqb, not-false}
+use borrow.Author.Tests.{eqb-true, eqb-false, eq-eqb, ne-eqb}
 use Rattle.laws.proofs.Bools.{clash, impossible, by-test}
 use Rattle.refusals.specs.Causes.{refuse}
 use Rattle.refusals.specs.declared.Refusal.{Refusal}
 use Rattle.refusals.proofs.Causes.{by-causes}
 use Rattle.transfer.specs.Rules.{endOf, before}
-use Rattle.transfer.specs.Steps.{unfinished, draining, started, frameLength, framed, resent, noneLeft, finished, answered, allSent, settled, drained, acked, naked, dropped}
+use Rattle.transfer.specs.Steps.{unfinished, draining, started, frameLength, framed, resent, noneLeft, finished, answered, allSent, settled, drained, acked, nacked, dropped}
 use Rattle.transfer.specs.Steps.{ended, refused, say, startCauses, frameCauses, answerCauses, endCauses, startStep, frameStep, ackStep, nakStep}
 use Rattle.transfer.specs.Steps.{dropStep, endStep}
 use Rattle.transfer.specs.Calls.{Call, start, frame, ack, nak, timeout, lost, nexus, cancel, stepOf, run}
 use Rattle.transfer.specs.History.{Frame, Entry, timedOut, wasLost, entries, isRefused, View, popAck, popNak, view}
 use Rattle.transfer.specs.Log.{nextFrame, entriesOf, history, askedOf}
-use Rattle.transfer.specs.Words.{askedAfter, askedBy, lastDue, resends, lastEnd, balanceBy, wordOf, wordBy}
+use Rattle.transfer.specs.Words.{lastDue, resends, lastEnd, balanceBy, wordOf, wordBy}
 use Rattle.transfer.specs.declared.Transfer.{Transfer}
 use Rattle.transfer.specs.declared.Stepped.{Stepped}
 use Rattle.transfer.specs.declared.Answer.{Answer}
 use Rattle.transfer.specs.declared.Phase.{Phase}
 use Rattle.transfer.proofs.Calls.{work, some-left}
-use Rattle.transfer.proofs.Balance.{Inv, EndsAt, running, drains, count, tally, keeps, at-first}
+use Rattle.transfer.proofs.Invariant.{Inv, EndsAt, running, drains, count, tally}
+use Rattle.transfer.proofs.Balance.{keeps, at-first}
 use Rattle.transfer.proofs.Demand.{unsent}
-
--- ---- B, N, M and R
-
--- a call that did st leaves them as the history has them
-abbrev pub Asks : Transfer → Call → Stepped → Type 0
-Asks s c st = askedOf (st .state) ≡ askedAfter c (st .answer) (askedOf s)
-
-module _ (bound : ℕ) (s : Transfer) where
-  asks-drain : (c : Call) → askedBy c (askedOf s) ≡ askedOf s → Asks s c (drained (answered s))
-  unfolding drained
-  asks-drain c e = by-test (Asks s c) (eqb (s .unanswered - 1) 0) (λ t. sym e) (λ t. sym e)
-
-  asks-ack : Asks s ack (acked (answered s))
-  unfolding acked settled
-  asks-ack =
-      by-test (Asks s ack) (draining (s .phase)) (λ d. asks-drain ack refl)
-      (λ d. by-test (Asks s ack) (eqb (s .unanswered - 1) 0) (λ t. by-test (Asks s ack) (allSent s) (λ q. refl) (λ q. refl)) (λ t. refl))
-
-  asks-nak : Asks s nak (naked (answered s))
-  unfolding naked
-  asks-nak = by-test (Asks s nak) (leb (s .resends) (s .used)) (λ t. refl) (λ t. asks-drain nak refl)
-
-  asks-drop : (c : Call) → askedBy c (askedOf s) ≡ askedOf s → Asks s c (dropped s)
-  unfolding dropped
-  asks-drop c e = by-test (Asks s c) (leb (s .resends) (s .used)) (λ t. sym e) (λ t. sym e)
-
-  pub asks : (c : Call) → Asks s c (stepOf bound c s)
-  unfolding stepOf startStep frameStep ackStep nakStep dropStep endStep
-  asks (start b n m r) = by-causes (Asks s (start b n m r)) (refused s) (λ k. refl) (startCauses bound b n m r s) (say Answer.Ok (started b n m r)) (λ off. refl)
-  asks frame = by-causes (Asks s frame) (refused s) (λ k. refl) (frameCauses bound s) (framed (frameLength s) s) (λ off. refl)
-  asks ack = by-causes (Asks s ack) (refused s) (λ k. refl) (answerCauses bound s) (acked (answered s)) (λ off. asks-ack)
-  asks nak = by-causes (Asks s nak) (refused s) (λ k. refl) (answerCauses bound s) (naked (answered s)) (λ off. asks-nak)
-  asks timeout = by-causes (Asks s timeout) (refused s) (λ k. refl) (answerCauses bound s) (dropped s) (λ off. asks-drop timeout refl)
-  asks lost = by-causes (Asks s lost) (refused s) (λ k. refl) (answerCauses bound s) (dropped s) (λ off. asks-drop lost refl)
-  asks nexus = by-causes (Asks s nexus) (refused s) (λ k. refl) (endCauses bound s) (ended s) (λ off. refl)
-  asks cancel = by-causes (Asks s cancel) (refused s) (λ k. refl) (endCauses bound s) (ended s) (λ off. refl)
-
--- ---- resends used, read offset and balance point
 
 pub record Tally (s : Transfer) (h : List Entry) : Type 0 where
   pub used : unfinished (s .phase) ≡ true → s .used ≡ resends h
@@ -196,8 +159,8 @@ module _ (bound : ℕ) (s : Transfer) (h : List Entry) (i : Inv bound s (view h)
     unfolding acked
     ack-word = by-test (Says ack) (draining (s .phase)) drain-word run-word
 
-    nak-tallies : Tallies s h nak (naked (answered s))
-    unfolding naked drained
+    nak-tallies : Tallies s h nak (nacked (answered s))
+    unfolding nacked drained
     nak-tallies =
         by-test (Tallies s h nak) (leb (s .resends) (s .used))
         (λ l. over refl (w .point))
@@ -213,8 +176,8 @@ module _ (bound : ℕ) (s : Transfer) (h : List Entry) (i : Inv bound s (view h)
           point = w .point;
         }))
 
-    nak-word : Says nak (naked (answered s))
-    unfolding naked drained
+    nak-word : Says nak (nacked (answered s))
+    unfolding nacked drained
     nak-word =
         by-test (Says nak) (leb (s .resends) (s .used)) (λ l. rw (sym (spent-is u) ∙ l))
         (λ l. by-test (Says nak) (eqb (s .unanswered - 1) 0) (λ t. rw (sym (spent-is u) ∙ l, sym due-is ∙ t)) (λ t. rw (sym (spent-is u) ∙ l, sym due-is ∙ t)))
@@ -244,7 +207,7 @@ module _ (bound : ℕ) (s : Transfer) (h : List Entry) (i : Inv bound s (view h)
       by-causes (Tallies s h frame) (refused s) (λ k. w) (frameCauses bound s) (framed (frameLength s) s)
       (λ off. record { used = w .used; ends = λ _. refl; point = w .point })
   tallies ack = answers (Tallies s h ack) (λ k. w) (acked (answered s)) ack-tallies
-  tallies nak = answers (Tallies s h nak) (λ k. w) (naked (answered s)) nak-tallies
+  tallies nak = answers (Tallies s h nak) (λ k. w) (nacked (answered s)) nak-tallies
   tallies timeout = answers (Tallies s h timeout) (λ k. w) (dropped s) (λ u some. drop-tallies u some timeout (over refl (w .point)) (again u some (timedOut ∷ h) refl tt (w .point)))
   tallies lost = answers (Tallies s h lost) (λ k. w) (dropped s) (λ u some. drop-tallies u some lost (over refl (w .point)) (again u some (wasLost ∷ h) refl tt (w .point)))
   tallies nexus = by-causes (Tallies s h nexus) (refused s) (λ k. w) (endCauses bound s) (ended s) (λ off. over refl (w .point))
@@ -262,7 +225,7 @@ module _ (bound : ℕ) (s : Transfer) (h : List Entry) (i : Inv bound s (view h)
   says (start b n m r) = by-causes (SaysTaken (start b n m r)) (refused s) (not-taken (start b n m r)) (startCauses bound b n m r s) (say Answer.Ok (started b n m r)) (λ off e. refl)
   says frame = by-causes (SaysTaken frame) (refused s) (not-taken frame) (frameCauses bound s) (framed (frameLength s) s) (λ off e. refl)
   says ack = answers (SaysTaken ack) (not-taken ack) (acked (answered s)) (λ u some e. ack-word u some)
-  says nak = answers (SaysTaken nak) (not-taken nak) (naked (answered s)) (λ u some e. nak-word u some)
+  says nak = answers (SaysTaken nak) (not-taken nak) (nacked (answered s)) (λ u some e. nak-word u some)
   says timeout = answers (SaysTaken timeout) (not-taken timeout) (dropped s) (λ u some e. drop-word u some)
   says lost = answers (SaysTaken lost) (not-taken lost) (dropped s) (λ u some e. drop-word u some)
   says nexus = by-causes (SaysTaken nexus) (refused s) (not-taken nexus) (endCauses bound s) (ended s) (λ off e. refl)
@@ -287,43 +250,3 @@ read-is bound s h i w u = by (work (s .phase) u) (view h .attempt) refl
     by (inl p) [] e = unsent bound s h i p e
     by (inr p) [] e = absurd (let short = drains bound s (view h) i p .short in let none = ap length e in omega arith)
     by p (f ∷ fs) e = sym (subst (λ (l : List Frame). EndsAt l (s .read)) e (w .ends u))
-
--- ---- what finishing leaves
-
--- a call that leaves the transfer finished moves neither the read offset nor the resends used
-abbrev pub Stays : Transfer → Stepped → Type 0
-Stays s st = unfinished (st .state .phase) ≡ false → (st .state .read ≡ s .read) × (st .state .used ≡ s .used)
-
-module _ (bound : ℕ) (s : Transfer) where
-  -- it is not finished
-  goes-on : {A : Type 0} → unfinished (s .phase) ≡ true → unfinished (s .phase) ≡ false → A
-  goes-on u e = absurd (clash (unfinished (s .phase)) u e)
-
-  stays-drain : Stays s (drained (answered s))
-  unfolding drained
-  stays-drain = by-test (Stays s) (eqb (s .unanswered - 1) 0) (λ t e. impossible (sym e)) (λ t e. impossible (sym e))
-
-  stays-ack : unfinished (s .phase) ≡ true → Stays s (acked (answered s))
-  unfolding acked settled
-  stays-ack u =
-      by-test (Stays s) (draining (s .phase)) (λ d. stays-drain)
-      (λ d. by-test (Stays s) (eqb (s .unanswered - 1) 0) (λ t. by-test (Stays s) (allSent s) (λ q e. (refl, refl)) (λ q. goes-on u)) (λ t. goes-on u))
-
-  stays-nak : Stays s (naked (answered s))
-  unfolding naked
-  stays-nak = by-test (Stays s) (leb (s .resends) (s .used)) (λ t e. (refl, refl)) (λ t. stays-drain)
-
-  stays-drop : Stays s (dropped s)
-  unfolding dropped
-  stays-drop = by-test (Stays s) (leb (s .resends) (s .used)) (λ t e. (refl, refl)) (λ t e. impossible (sym e))
-
-  pub stays : (c : Call) → Stays s (stepOf bound c s)
-  unfolding stepOf startStep frameStep ackStep nakStep dropStep endStep
-  stays (start b n m r) = by-causes (Stays s) (refused s) (λ k e. (refl, refl)) (startCauses bound b n m r s) (say Answer.Ok (started b n m r)) (λ off e. impossible (sym e))
-  stays frame = by-causes (Stays s) (refused s) (λ k e. (refl, refl)) (frameCauses bound s) (framed (frameLength s) s) (λ off. goes-on (not-false _ (off .1 .0)))
-  stays ack = by-causes (Stays s) (refused s) (λ k e. (refl, refl)) (answerCauses bound s) (acked (answered s)) (λ off. stays-ack (some-left s (off .1 .0) .0))
-  stays nak = by-causes (Stays s) (refused s) (λ k e. (refl, refl)) (answerCauses bound s) (naked (answered s)) (λ off. stays-nak)
-  stays timeout = by-causes (Stays s) (refused s) (λ k e. (refl, refl)) (answerCauses bound s) (dropped s) (λ off. stays-drop)
-  stays lost = by-causes (Stays s) (refused s) (λ k e. (refl, refl)) (answerCauses bound s) (dropped s) (λ off. stays-drop)
-  stays nexus = by-causes (Stays s) (refused s) (λ k e. (refl, refl)) (endCauses bound s) (ended s) (λ off e. (refl, refl))
-  stays cancel = by-causes (Stays s) (refused s) (λ k e. (refl, refl)) (endCauses bound s) (ended s) (λ off e. (refl, refl))

@@ -12,11 +12,11 @@ pub record Frame : Type 0 where
   pub at : ℕ
   pub len : ℕ
 
--- what the history holds of a call that was taken, where F is what it holds of a frame
+-- what the history holds of a call that was taken, where F is what it holds of a frame; `nacked` is a NAK, as `acked` is an ACK
 pub data EntryOf (F : Type 0) : Type 0 where
   started : EntryOf F
   sent : F → EntryOf F
-  acked naked timedOut wasLost ended : EntryOf F
+  acked nacked timedOut wasLost ended : EntryOf F
 
 abbrev pub Entry : Type 0
 Entry = EntryOf Frame
@@ -25,7 +25,7 @@ abbrev pub entryOf : {F : Type 0} → Call → F → EntryOf F
 entryOf (start b n m r) f = started
 entryOf frame f = sent f
 entryOf ack f = acked
-entryOf nak f = naked
+entryOf nak f = nacked
 entryOf timeout f = timedOut
 entryOf lost f = wasLost
 entryOf nexus f = ended
@@ -91,7 +91,7 @@ abbrev pub note : {F : Type 0} → EntryOf F → ViewOf F → ViewOf F
 note started v = nothing
 note (sent f) v = record { acked = v .acked; waiting = v .waiting ++ (f ∷ []); attempt = f ∷ v .attempt; good = v .good; nak = v .nak; resend = v .resend }
 note acked v = popAck (v .waiting) v
-note naked v = popNak (v .waiting) v
+note nacked v = popNak (v .waiting) v
 note timedOut v = anew v
 note wasLost v = anew v
 note ended v = v
@@ -115,7 +115,7 @@ framesSent [] = 0
 framesSent (started ∷ older) = 0
 framesSent (sent f ∷ older) = suc (framesSent older)
 framesSent (acked ∷ older) = framesSent older
-framesSent (naked ∷ older) = framesSent older
+framesSent (nacked ∷ older) = framesSent older
 framesSent (timedOut ∷ older) = framesSent older
 framesSent (wasLost ∷ older) = framesSent older
 framesSent (ended ∷ older) = framesSent older

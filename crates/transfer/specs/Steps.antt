@@ -107,8 +107,8 @@ unfoldable pub acked : Transfer → Stepped
 acked s = cond (draining (s .phase)) (drained s) (cond (eqb (s .unanswered) 0) (settled s) (say Answer.Ok s))
 
 -- 01 READ.11: NAK: with R resends used, failed; else drain, and resend once none is unanswered.
-unfoldable pub naked : Transfer → Stepped
-naked s = cond (leb (s .resends) (s .used)) (finished Answer.Fail Phase.Fail s) (drained s)
+unfoldable pub nacked : Transfer → Stepped
+nacked s = cond (leb (s .resends) (s .used)) (finished Answer.Fail Phase.Fail s) (drained s)
 
 -- 01 READ.12: TIMEOUT, LOST: drop unanswered frames; resend, or failed if R are used.
 unfoldable pub dropped : Transfer → Stepped
@@ -154,7 +154,7 @@ unfoldable pub ackStep : ℕ → Transfer → Stepped
 ackStep bound s = refuse (refused s) (answerCauses bound s) (acked (answered s))
 
 unfoldable pub nakStep : ℕ → Transfer → Stepped
-nakStep bound s = refuse (refused s) (answerCauses bound s) (naked (answered s))
+nakStep bound s = refuse (refused s) (answerCauses bound s) (nacked (answered s))
 
 unfoldable pub dropStep : ℕ → Transfer → Stepped
 dropStep bound s = refuse (refused s) (answerCauses bound s) (dropped s)

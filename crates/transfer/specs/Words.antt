@@ -8,7 +8,7 @@ use lib.ListN.{length}
 use Rattle.refusals.specs.Refusals.{numberOf}
 use Rattle.transfer.specs.Rules.{inRange}
 use Rattle.transfer.specs.Calls.{Call, start, frame, ack, nak, timeout, lost, nexus, cancel}
-use Rattle.transfer.specs.History.{Frame, EntryOf, started, sent, acked, naked, timedOut, wasLost, ended, Entry, isRefused, ViewOf, view}
+use Rattle.transfer.specs.History.{Frame, EntryOf, started, sent, acked, nacked, timedOut, wasLost, ended, Entry, isRefused, ViewOf, view}
 use Rattle.transfer.specs.declared.Answer.{Answer}
 
 -- 01 READ.1: B, N, M and R
@@ -47,7 +47,7 @@ resends [] = 0
 resends (started ∷ older) = 0
 resends (sent f ∷ older) = resends older
 resends (acked ∷ older) = cond (view older .nak && lastDue (view older)) (suc (resends older)) (resends older)
-resends (naked ∷ older) = cond (lastDue (view older)) (suc (resends older)) (resends older)
+resends (nacked ∷ older) = cond (lastDue (view older)) (suc (resends older)) (resends older)
 resends (timedOut ∷ older) = suc (resends older)
 resends (wasLost ∷ older) = suc (resends older)
 resends (ended ∷ older) = resends older
@@ -64,7 +64,7 @@ balanceBy b [] = b
 balanceBy b (started ∷ older) = b
 balanceBy b (sent f ∷ older) = balanceBy b older
 balanceBy b (acked ∷ older) = cond (not (view older .nak) && lastDue (view older)) (lastEnd b (view older .attempt)) (balanceBy b older)
-balanceBy b (naked ∷ older) = balanceBy b older
+balanceBy b (nacked ∷ older) = balanceBy b older
 balanceBy b (timedOut ∷ older) = balanceBy b older
 balanceBy b (wasLost ∷ older) = balanceBy b older
 balanceBy b (ended ∷ older) = balanceBy b older
@@ -154,7 +154,7 @@ underway a [] = false
 underway a (started ∷ older) = true
 underway a (sent f ∷ older) = true
 underway a (acked ∷ older) = not (delivers a older)
-underway a (naked ∷ older) = not (spent a older)
+underway a (nacked ∷ older) = not (spent a older)
 underway a (timedOut ∷ older) = not (spent a older)
 underway a (wasLost ∷ older) = not (spent a older)
 underway a (ended ∷ older) = false

@@ -30,7 +30,7 @@ fn is_fielded(h: Held) -> bool
         Held::Nothing => true,
         Held::Frame(f) => {
             let head = f.head;
-            open_frame::listed(head)
+            open_frame::head_listed(head)
         }
     }
 }
@@ -108,7 +108,7 @@ fn brings_unlisted(e: Event, f: OpenFrame) -> bool
     ensures { λ r. ⌜ r ≡ framed e && not (headListed (f .head)) ⌝ }
 {
     let head = f.head;
-    if open_frame::listed(head) {
+    if open_frame::head_listed(head) {
         return false;
     }
     has_frame(e)

@@ -286,7 +286,7 @@ fn crosses(s: State, g: OpenFrame) -> Stepped
     let Held::Frame(f) = held else {
         return stays(s);
     };
-    if !was_seen(aip) & !open_frame::higher(g, f) {
+    if !was_seen(aip) & !open_frame::higher_than(g, f) {
         return stays(s);
     }
     backs_off(s, f, g)

@@ -3,13 +3,13 @@ use Prim.Native.Nat.{_-_}
 use mathlib.Core.Path.{refl}
 use native.Mathlib.Omega.{arith}
 use borrow.Author.Needs.{needs}
-use Rattle.bench_steps.specs.Rounds.{ackOf}
+use Rattle.bench_steps.specs.Rounds.{afterAck}
 use Rattle.bench_steps.proofs.Loops.{Turned, again, all}
 use Rattle.bench_steps.proofs.all_acked.Statement.{statement}
 use Rattle.bench_steps.proofs.all_acked.Tie as tie
 
 abbrev Inv-loop : tie.InvT-loop
-Inv-loop s₀ rounds i₀ s i = Turned ackOf s₀ rounds s i
+Inv-loop s₀ rounds i₀ s i = Turned afterAck s₀ rounds s i
 
 abbrev μ-loop : tie.MeasureT-loop
 μ-loop s₀ rounds i₀ s i = rounds - i
@@ -17,8 +17,8 @@ abbrev μ-loop : tie.MeasureT-loop
 loop-holds : tie.Need-loop-holds Inv-loop μ-loop
 loop-holds c = (omega arith, refl)
 
-acked-requires : tie.Need-acked-requires Inv-loop μ-loop
-acked-requires c κs = tt
+after-ack-requires : tie.Need-after-ack-requires Inv-loop μ-loop
+after-ack-requires c κs = tt
 
 add-i : tie.Need-add-i Inv-loop μ-loop
 add-i c = search needs
@@ -27,10 +27,10 @@ loop-less : tie.Need-loop-less Inv-loop μ-loop
 loop-less c = omega arith
 
 loop-again : tie.Need-loop-again Inv-loop μ-loop
-loop-again c = again ackOf _ _ (c .before .before .loop .inv) (c .before .loop-test .taken) (c .acked .ensures)
+loop-again c = again afterAck _ _ (c .before .before .loop .inv) (c .before .loop-test .taken) (c .after-ack .ensures)
 
 returns : tie.Need-returns Inv-loop μ-loop
-returns c = all ackOf _ _ (c .before .loop .inv) (c .loop-test .left)
+returns c = all afterAck _ _ (c .before .loop .inv) (c .loop-test .left)
 
 pub all-acked-spec : {M : Type 1} → statement M
 all-acked-spec =
@@ -39,7 +39,7 @@ all-acked-spec =
     Inv-loop
     μ-loop
     loop-holds
-    acked-requires
+    after-ack-requires
     add-i
     loop-less
     loop-again

@@ -5,14 +5,14 @@ use native.Mathlib.Omega.{arith}
 use lib.ListN as list
 use denote.Ref.{now}
 use borrow.Author.Needs.{needs}
-use Rattle.bench_steps.specs.Rounds.{Said, said, nextOf}
+use Rattle.bench_steps.specs.Rounds.{Said, said, afterNext}
 use Rattle.bench_steps.proofs.Loops.{Turned, again, all}
 use Rattle.bench_steps.proofs.all_next.Statement.{statement}
 use Rattle.bench_steps.proofs.all_next.Tie as tie
 
 abbrev Inv-loop : tie.InvT-loop
 Inv-loop rounds destination source tag body out₀ last₀ i₀ out last i =
-    (list.length out ≡ list.length out₀) × Turned (nextOf destination source tag body) (said last₀ out₀) rounds (said last out) i
+    (list.length out ≡ list.length out₀) × Turned (afterNext destination source tag body) (said last₀ out₀) rounds (said last out) i
 
 abbrev μ-loop : tie.MeasureT-loop
 μ-loop rounds destination source tag body out₀ last₀ i₀ out last i = rounds - i
@@ -35,7 +35,7 @@ loop-again c =
     let body = at .before .before .before in
     let a = at .before .before .before .before .before .before .before .args in
     let went = at .next-frame .ensures in
-    (search needs, again (nextOf (a .destination) (a .source) (a .tag) (now (a .body))) _ _ (body .before .loop .inv .1) (body .loop-test .taken) (λ i. said (went .step i) (went .bytes i)))
+    (search needs, again (afterNext (a .destination) (a .source) (a .tag) (now (a .body))) _ _ (body .before .loop .inv .1) (body .loop-test .taken) (λ i. said (went .step i) (went .bytes i)))
 
 same-length : tie.Need-same-length Inv-loop μ-loop
 same-length c = c .before .loop .inv .0
@@ -43,7 +43,7 @@ same-length c = c .before .loop .inv .0
 returns : tie.Need-returns Inv-loop μ-loop
 returns c =
     let a = c .before .before .before .before .args in
-    let e = all (nextOf (a .destination) (a .source) (a .tag) (now (a .body))) _ _ (c .before .loop .inv .1) (c .loop-test .left) in
+    let e = all (afterNext (a .destination) (a .source) (a .tag) (now (a .body))) _ _ (c .before .loop .inv .1) (c .loop-test .left) in
     record { step = ap (λ (w : Said). w .stepped) e; bytes = ap (λ (w : Said). w .out) e }
 
 pub all-next-spec : {M : Type 1} → statement M

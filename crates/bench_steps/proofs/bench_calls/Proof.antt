@@ -8,7 +8,7 @@ use denote.Ref.{now}
 use borrow.Author.Needs.{needs}
 use Rattle.transfer.specs.declared.Stepped.{Stepped}
 use Rattle.bench_steps.specs.Rounds.{startWith, Said, said}
-use Rattle.bench_steps.specs.Calls.{callOf, after, spoken}
+use Rattle.bench_steps.specs.Calls.{afterCall, after, answerNumber}
 use Rattle.bench_steps.proofs.bench_calls.Statement.{statement}
 use Rattle.bench_steps.proofs.bench_calls.Tie as tie
 
@@ -19,11 +19,11 @@ Inv-loop b n m r calls destination source tag body out₀ last₀ i₀ out last 
 abbrev μ-loop : tie.MeasureT-loop
 μ-loop b n m r calls destination source tag body out₀ last₀ i₀ out last i = length calls - i
 
-start-requires : tie.Need-start-requires Inv-loop μ-loop
-start-requires c κs = tt
+start-with-requires : tie.Need-start-with-requires Inv-loop μ-loop
+start-with-requires c κs = tt
 
 loop-holds : tie.Need-loop-holds Inv-loop μ-loop
-loop-holds c = (omega arith, (refl, ap (λ (st : Stepped). said st (now (c .before .before .before .before .args .out))) (c .start .ensures)))
+loop-holds c = (omega arith, (refl, ap (λ (st : Stepped). said st (now (c .before .before .before .before .args .out))) (c .start-with .ensures)))
 
 shared-slice-read-called : tie.Need-shared-slice-read-called Inv-loop μ-loop
 shared-slice-read-called c = search needs
@@ -46,11 +46,11 @@ loop-again c =
     let l = at .before .before .before .before .loop in
     let a = at .before .before .before .before .before .before .before .before .before .args in
     let did = at .called .ensures in
-    let turn = callOf (a .destination) (a .source) (a .tag) (now (a .body)) (getD (now (a .calls)) (l .i) 0 % 8) in
+    let turn = afterCall (a .destination) (a .source) (a .tag) (now (a .body)) (getD (now (a .calls)) (l .i) 0 % 8) in
     (omega arith, (search needs, rw add-one ((λ i. said (did .step i) (did .bytes i)) ∙ ap turn (l .inv .1 .1))))
 
-number-requires : tie.Need-number-requires Inv-loop μ-loop
-number-requires c κs = tt
+answer-number-requires : tie.Need-answer-number-requires Inv-loop μ-loop
+answer-number-requires c κs = tt
 
 same-length : tie.Need-same-length Inv-loop μ-loop
 same-length c = c .before .before .loop .inv .1 .0
@@ -61,7 +61,7 @@ returns c =
     let a = c .before .before .before .before .before .before .before .args in
     let done : l .i ≡ length (now (a .calls)) = omega (arith, l .inv .0, c .before .loop-test .left) in
     let e = rw done at (l .inv .1 .1) in
-    record { answer = c .number .ensures ∙ ap (λ (w : Said). spoken (w .stepped .answer)) e; bytes = ap (λ (w : Said). w .out) e }
+    record { answer = c .answer-number .ensures ∙ ap (λ (w : Said). answerNumber (w .stepped .answer)) e; bytes = ap (λ (w : Said). w .out) e }
 
 pub bench-calls-spec : {M : Type 1} → statement M
 bench-calls-spec =
@@ -69,13 +69,13 @@ bench-calls-spec =
     (tie.spec
     Inv-loop
     μ-loop
-    start-requires
+    start-with-requires
     loop-holds
     shared-slice-read-called
     called-requires
     add-i
     loop-less
     loop-again
-    number-requires
+    answer-number-requires
     same-length
     returns)

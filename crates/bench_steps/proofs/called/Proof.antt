@@ -1,4 +1,4 @@
--- The two ways out of `called` are the cases of `callOf`. Assumes nothing.
+-- The two ways out of `called` are the cases of `afterCall`. Assumes nothing.
 use mathlib.Core.Path.{sym, ap, _∙_}
 use denote.Ref.{now}
 use borrow.Author.Needs.{needs}
@@ -7,15 +7,15 @@ use Rattle.bench_steps.proofs.Laws.{is-plain, is-next}
 use Rattle.bench_steps.proofs.called.Statement.{statement}
 use Rattle.bench_steps.proofs.called.Tie as tie
 
-plain-requires : tie.Need-plain-requires
-plain-requires c κs = tt
+plain-step-requires : tie.Need-plain-step-requires
+plain-step-requires c κs = tt
 
 returns : tie.Need-returns
 returns c =
     let then1 = c .before .before in
     let a = then1 .before .before .before .args in
     let e = sym (is-plain (a .destination) (a .source) (a .tag) (now (a .body)) (a .call) (said (a .last) (now (a .out))) (then1 .if1 .taken)) in
-    record { step = c .plain .ensures ∙ ap (λ (w : Said). w .stepped) e; bytes = ap (λ (w : Said). w .out) e }
+    record { step = c .plain-step .ensures ∙ ap (λ (w : Said). w .stepped) e; bytes = ap (λ (w : Said). w .out) e }
 
 all-next-requires : tie.Need-all-next-requires
 all-next-requires c κs = tt
@@ -33,4 +33,4 @@ returns-2 c =
     record { step = did .step ∙ ap (λ (w : Said). w .stepped) e; bytes = did .bytes ∙ ap (λ (w : Said). w .out) e }
 
 pub called-spec : {M : Type 1} → statement M
-called-spec = tie.close (tie.spec plain-requires returns all-next-requires same-length returns-2)
+called-spec = tie.close (tie.spec plain-step-requires returns all-next-requires same-length returns-2)

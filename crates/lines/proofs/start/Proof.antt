@@ -18,14 +18,14 @@ abbrev μ-loop : tie.MeasureT-loop
 loop-holds : tie.Need-loop-holds Inv-loop μ-loop
 loop-holds c = (omega arith, omega arith, refl)
 
-find-requires : tie.Need-find-requires Inv-loop μ-loop
-find-requires c κs = tt
+place-from-requires : tie.Need-place-from-requires Inv-loop μ-loop
+place-from-requires c κs = tt
 
 add-at : tie.Need-add-at Inv-loop μ-loop
 add-at c = omega arith
 
 returns : tie.Need-returns Inv-loop μ-loop
-returns c = (omega arith, no-field (c .before .before .before .before .before .args .s .now) (c .before .before .before .loop .at) (c .before .before .before .loop .j) (c .before .find .result) (c .before .before .before .loop .inv .0) (c .before .before .before .loop .inv .2) (c .before .find .ensures) (c .if1 .left) (c .before .before .before .before .before .args .k) (c .before .before .loop-test .taken))
+returns c = (omega arith, no-field (c .before .before .before .before .before .args .s .now) (c .before .before .before .loop .at) (c .before .before .before .loop .j) (c .before .place-from .result) (c .before .before .before .loop .inv .0) (c .before .before .before .loop .inv .2) (c .before .place-from .ensures) (c .if1 .left) (c .before .before .before .before .before .args .k) (c .before .before .loop-test .taken))
 
 add-j : tie.Need-add-j Inv-loop μ-loop
 add-j c = omega (arith, c .before .before .loop-test .taken)
@@ -34,7 +34,7 @@ loop-less : tie.Need-loop-less Inv-loop μ-loop
 loop-less c = omega (arith, c .before .before .loop-test .taken)
 
 loop-again : tie.Need-loop-again Inv-loop μ-loop
-loop-again c = (omega (arith, c .if1 .taken), omega (arith, c .before .before .loop-test .taken), next-field (c .before .before .before .before .before .args .s .now) (c .before .before .before .loop .at) (c .before .before .before .loop .j) (c .before .find .result) (c .before .before .before .loop .inv .0) (c .before .before .before .loop .inv .2) (c .before .find .ensures))
+loop-again c = (omega (arith, c .if1 .taken), omega (arith, c .before .before .loop-test .taken), next-field (c .before .before .before .before .before .args .s .now) (c .before .before .before .loop .at) (c .before .before .before .loop .j) (c .before .place-from .result) (c .before .before .before .loop .inv .0) (c .before .before .before .loop .inv .2) (c .before .place-from .ensures))
 
 returns-2 : tie.Need-returns-2 Inv-loop μ-loop
 returns-2 c = (c .before .loop .inv .0, let k : c .before .loop .j ≡ c .before .before .before .args .k = omega (arith, c .loop-test .left, c .before .loop .inv .1) in c .before .loop .inv .2 ∙ ap (λ j. behindTabs j (c .before .before .before .args .s .now)) k)
@@ -46,7 +46,7 @@ start-spec =
     Inv-loop
     μ-loop
     loop-holds
-    find-requires
+    place-from-requires
     add-at
     returns
     add-j

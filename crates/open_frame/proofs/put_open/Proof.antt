@@ -37,8 +37,8 @@ at1 c = c .before .before .before .before .before
 abbrev at-start : tie.After-put-be → tie.Start
 at-start c = c .before .before .before .before
 
-first-requires : tie.Need-first-requires
-first-requires c κs = let l : Listed (c .before .before .args .f .head) = listed-is (c .before .before .args .f .head) (c .before .before .pre .1) in (l .initiator, omega (arith, l .protocol))
+byte0-requires : tie.Need-byte0-requires
+byte0-requires c κs = let l : Listed (c .before .before .args .f .head) = listed-is (c .before .before .args .f .head) (c .before .before .pre .1) in (l .initiator, omega (arith, l .protocol))
 
 cast-put-be : tie.Need-cast-put-be
 cast-put-be c = search needs
@@ -46,8 +46,8 @@ cast-put-be c = search needs
 put-be-requires : tie.Need-put-be-requires
 put-be-requires c κs = search needs
 
-second-requires : tie.Need-second-requires
-second-requires c κs =
+byte1-requires : tie.Need-byte1-requires
+byte1-requires c κs =
     let start = at-start (c .before .before .before) in
     let l : Listed (start .args .f .head) = listed-is (start .args .f .head) (start .pre .1) in
     (l .features, omega (arith, l .most))
@@ -123,8 +123,8 @@ returns c =
     let f = at-start a1 .args .f in
     let out = now (at-start a1 .args .out) in
     let none : out ≡ out = refl in
-    let e0 = computed 0 1 (a1 .before .first .ensures) none (a1 .put-be .ensures) in
-    let e1 = computed 1 1 (a2 .before .second .ensures) e0 (a2 .put-be2 .ensures) in
+    let e0 = computed 0 1 (a1 .before .byte0 .ensures) none (a1 .put-be .ensures) in
+    let e1 = computed 1 1 (a2 .before .byte1 .ensures) e0 (a2 .put-be2 .ensures) in
     let e2 = after 2 2 (f .head .tag) e1 (a3 .put-be3 .ensures) in
     let e4 = after 4 8 (f .head .destination) e2 (a4 .put-be4 .ensures) in
     let e12 = after 12 8 (f .head .source) e4 (a5 .put-be5 .ensures) in
@@ -137,10 +137,10 @@ pub put-open-spec : {M : Type 1} → statement M
 put-open-spec =
     tie.close
     (tie.spec
-    first-requires
+    byte0-requires
     cast-put-be
     put-be-requires
-    second-requires
+    byte1-requires
     cast-put-be-2
     put-be-requires-2
     cast-put-be-3

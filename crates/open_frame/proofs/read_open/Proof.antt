@@ -29,8 +29,8 @@ shared-slice-read-low c = search needs
 low-requires : tie.Need-low-requires
 low-requires c κs = search needs
 
-listed-requires : tie.Need-listed-requires
-listed-requires c κs = search needs
+head-listed-requires : tie.Need-head-listed-requires
+head-listed-requires c κs = search needs
 
 shared-slice-read-t13 : tie.Need-shared-slice-read-t13
 shared-slice-read-t13 c = search needs
@@ -42,10 +42,10 @@ cast-t16 : tie.Need-cast-t16
 cast-t16 c = search needs
 
 -- what the second test tests
-tested : (c : tie.After-listed) → let s = now (c .before .before .before .before .before .before .args .s) in eqb (c .before .low .result) 1 && c .listed .result ≡ typed s && headListed (headOf s)
+tested : (c : tie.After-head-listed) → let s = now (c .before .before .before .before .before .before .args .s) in eqb (c .before .low .result) 1 && c .head-listed .result ≡ typed s && headListed (headOf s)
 tested c =
     let at-head = c .before .before .before in
-    λ i. eqb (c .before .low .ensures i) 1 && (c .listed .ensures ∙ ap headListed (at-head .head-of .ensures)) i
+    λ i. eqb (c .before .low .ensures i) 1 && (c .head-listed .ensures ∙ ap headListed (at-head .head-of .ensures)) i
 
 returns-2 : tie.Need-returns-2
 unfolding readOpen
@@ -75,7 +75,7 @@ read-open-spec =
     head-of-requires
     shared-slice-read-low
     low-requires
-    listed-requires
+    head-listed-requires
     shared-slice-read-t13
     get-be-requires
     cast-t16

@@ -4,8 +4,8 @@ use borrow.Author.Needs.{needs}
 use Rattle.port_rules.proofs.present_rule.Statement.{statement}
 use Rattle.port_rules.proofs.present_rule.Tie as tie
 
-listed-requires : tie.Need-listed-requires
-listed-requires c κs = search needs
+head-listed-requires : tie.Need-head-listed-requires
+head-listed-requires c κs = search needs
 
 flags-rule-requires : tie.Need-flags-rule-requires
 flags-rule-requires c κs = search needs
@@ -18,8 +18,8 @@ unfolding presentRule
 returns c =
     let s = c .before .before in
     let f = s .before .before .before in
-    rw (s .stamps-rule .ensures, f .flags-rule .ensures, f .before .listed .ensures)
+    rw (s .stamps-rule .ensures, f .flags-rule .ensures, f .before .head-listed .ensures)
 
 pub present-rule-spec : {M : Type 1} → statement M
 present-rule-spec =
-    tie.close (tie.spec listed-requires flags-rule-requires stamps-rule-requires returns)
+    tie.close (tie.spec head-listed-requires flags-rule-requires stamps-rule-requires returns)

@@ -27,8 +27,8 @@ places-requires c κs = tt
 loop-holds : tie.Need-loop-holds Inv-loop μ-loop
 loop-holds c = loop-first _ _ _ _ _ _ (c .before .places .ensures .1)
 
-find-requires : tie.Need-find-requires Inv-loop μ-loop
-find-requires c κs = tt
+place-from-requires : tie.Need-place-from-requires Inv-loop μ-loop
+place-from-requires c κs = tt
 
 sub-if1 : tie.Need-sub-if1 Inv-loop μ-loop
 sub-if1 c = omega (arith, said-all (c .before .before .loop .inv), c .before .before .loop .inv .going .room, kept (c .before .before .loop .inv .bytes))
@@ -40,13 +40,13 @@ front-requires : tie.Need-front-requires Inv-loop μ-loop
 front-requires c κs = tt
 
 sub-hold : tie.Need-sub-hold Inv-loop μ-loop
-sub-hold c = end-behind (c .before .before .before .before .before .loop .inv .going) (c .before .before .before .find .ensures)
+sub-hold c = end-behind (c .before .before .before .before .before .loop .inv .going) (c .before .before .before .place-from .ensures)
 
 part-hold-start : tie.Need-part-hold-start Inv-loop μ-loop
-part-hold-start c = end-behind (c .before .before .before .before .before .loop .inv .going) (c .before .before .before .find .ensures)
+part-hold-start c = end-behind (c .before .before .before .before .before .loop .inv .going) (c .before .before .before .place-from .ensures)
 
 part-hold-end : tie.Need-part-hold-end Inv-loop μ-loop
-part-hold-end c = end-inside (c .before .before .before .before .before .loop .inv .going) (c .before .before .before .find .ensures)
+part-hold-end c = end-inside (c .before .before .before .before .before .loop .inv .going) (c .before .before .before .place-from .ensures)
 
 hold-requires : tie.Need-hold-requires Inv-loop μ-loop
 hold-requires c κs = tt
@@ -55,7 +55,7 @@ same-length : tie.Need-same-length Inv-loop μ-loop
 same-length c = kept (c .before .before .before .before .before .before .before .loop .inv .bytes)
 
 returns : tie.Need-returns Inv-loop μ-loop
-returns c = loop-stop (c .before .before .before .before .before .before .before .loop .inv) (c .before .before .before .before .before .find .ensures) (c .before .before .before .before .if1 .taken) (c .before .before .before .before .before .before .before .before .before .before .before .before .before .args .run) (ap (λ k. carry (c .before .before .before .before .before .before .before .before .before .before .before .before .before .args .run .line) (c .before .before .before .before .before .before .before .before .before .before .before .before .before .args .run .len) k (c .before .before .before .before .before .before .before .before .before .before .before .before .before .args .run .state)) (c .before .before .before .before .before .before .before .before .before .places .ensures .0)) (c .hold .ensures ∙ ap (λ b. runOf (record { line = c .before .before .before .before .before .before .before .loop .line; begun = take enough (b ++ take (c .before .before .before .before .before .find .result - c .before .before .before .before .before .before .before .loop .i) (drop (c .before .before .before .before .before .before .before .loop .i) (c .before .before .before .before .before .before .before .before .before .before .before .before .before .args .block .now))); state = c .before .before .before .before .before .before .before .loop .state })) (c .before .before .front .ensures))
+returns c = loop-stop (c .before .before .before .before .before .before .before .loop .inv) (c .before .before .before .before .before .place-from .ensures) (c .before .before .before .before .if1 .taken) (c .before .before .before .before .before .before .before .before .before .before .before .before .before .args .run) (ap (λ k. carry (c .before .before .before .before .before .before .before .before .before .before .before .before .before .args .run .line) (c .before .before .before .before .before .before .before .before .before .before .before .before .before .args .run .len) k (c .before .before .before .before .before .before .before .before .before .before .before .before .before .args .run .state)) (c .before .before .before .before .before .before .before .before .before .places .ensures .0)) (c .hold .ensures ∙ ap (λ b. runOf (record { line = c .before .before .before .before .before .before .before .loop .line; begun = take enough (b ++ take (c .before .before .before .before .before .place-from .result - c .before .before .before .before .before .before .before .loop .i) (drop (c .before .before .before .before .before .before .before .loop .i) (c .before .before .before .before .before .before .before .before .before .before .before .before .before .args .block .now))); state = c .before .before .before .before .before .before .before .loop .state })) (c .before .before .front .ensures))
 
 next-line-requires : tie.Need-next-line-requires Inv-loop μ-loop
 next-line-requires c κs = tt
@@ -64,25 +64,25 @@ slice-aggregate-end-line : tie.Need-slice-aggregate-end-line Inv-loop μ-loop
 slice-aggregate-end-line c = sym (c .before .before .before .before .before .loop .inv .size)
 
 sub-end-line : tie.Need-sub-end-line Inv-loop μ-loop
-sub-end-line c = end-behind (c .before .before .before .before .before .loop .inv .going) (c .before .before .before .find .ensures)
+sub-end-line c = end-behind (c .before .before .before .before .before .loop .inv .going) (c .before .before .before .place-from .ensures)
 
 part-end-line-start : tie.Need-part-end-line-start Inv-loop μ-loop
-part-end-line-start c = end-behind (c .before .before .before .before .before .loop .inv .going) (c .before .before .before .find .ensures)
+part-end-line-start c = end-behind (c .before .before .before .before .before .loop .inv .going) (c .before .before .before .place-from .ensures)
 
 part-end-line-end : tie.Need-part-end-line-end Inv-loop μ-loop
-part-end-line-end c = end-inside (c .before .before .before .before .before .loop .inv .going) (c .before .before .before .find .ensures)
+part-end-line-end c = end-inside (c .before .before .before .before .before .loop .inv .going) (c .before .before .before .place-from .ensures)
 
 end-line-requires : tie.Need-end-line-requires Inv-loop μ-loop
 end-line-requires c κs = c .before .before .before .before .before .before .before .loop .inv .size
 
 add-i : tie.Need-add-i Inv-loop μ-loop
-add-i c = (let ne = eqb-false (c .before .before .before .before .before .before .before .before .before .before .find .result) (length (c .before .before .before .before .before .before .before .before .before .before .before .before .before .before .before .before .before .before .args .block .now)) (nor _ _ (c .before .before .before .before .before .before .before .before .before .if1 .left) .0) in omega (arith, end-inside (c .before .before .before .before .before .before .before .before .before .before .before .before .loop .inv .going) (c .before .before .before .before .before .before .before .before .before .before .find .ensures), ne, c .before .before .before .before .before .before .before .before .before .before .before .before .before .before .before .before .before .before .good))
+add-i c = (let ne = eqb-false (c .before .before .before .before .before .before .before .before .before .before .place-from .result) (length (c .before .before .before .before .before .before .before .before .before .before .before .before .before .before .before .before .before .before .args .block .now)) (nor _ _ (c .before .before .before .before .before .before .before .before .before .if1 .left) .0) in omega (arith, end-inside (c .before .before .before .before .before .before .before .before .before .before .before .before .loop .inv .going) (c .before .before .before .before .before .before .before .before .before .before .place-from .ensures), ne, c .before .before .before .before .before .before .before .before .before .before .before .before .before .before .before .before .before .before .good))
 
 loop-less : tie.Need-loop-less Inv-loop μ-loop
-loop-less c = omega (arith, end-inside (c .before .before .before .before .before .before .before .before .before .before .before .before .loop .inv .going) (c .before .before .before .before .before .before .before .before .before .before .find .ensures), end-behind (c .before .before .before .before .before .before .before .before .before .before .before .before .loop .inv .going) (c .before .before .before .before .before .before .before .before .before .before .find .ensures))
+loop-less c = omega (arith, end-inside (c .before .before .before .before .before .before .before .before .before .before .before .before .loop .inv .going) (c .before .before .before .before .before .before .before .before .before .before .place-from .ensures), end-behind (c .before .before .before .before .before .before .before .before .before .before .before .before .loop .inv .going) (c .before .before .before .before .before .before .before .before .before .before .place-from .ensures))
 
 loop-again : tie.Need-loop-again Inv-loop μ-loop
-loop-again c = loop-line (c .before .before .before .before .before .before .before .before .before .before .before .before .loop .inv) (c .before .before .before .before .before .before .before .before .before .before .find .ensures) (c .before .before .before .before .before .before .before .before .before .if1 .left) (c .before .before .before .before .before .before .before .before .next-line .ensures) (omega (arith, c .before .before .before .before .end-line .kept, c .before .before .before .before .before .before .before .before .before .before .before .before .loop .inv .size)) (c .before .before .before .before .end-line .ensures)
+loop-again c = loop-line (c .before .before .before .before .before .before .before .before .before .before .before .before .loop .inv) (c .before .before .before .before .before .before .before .before .before .before .place-from .ensures) (c .before .before .before .before .before .before .before .before .before .if1 .left) (c .before .before .before .before .before .before .before .before .next-line .ensures) (omega (arith, c .before .before .before .before .end-line .kept, c .before .before .before .before .before .before .before .before .before .before .before .before .loop .inv .size)) (c .before .before .before .before .end-line .ensures)
 
 slice-aggregate-front-2 : tie.Need-slice-aggregate-front-2 Inv-loop μ-loop
 slice-aggregate-front-2 c = sym (c .before .before .loop .inv .size)
@@ -116,7 +116,7 @@ feed-spec =
     μ-loop
     places-requires
     loop-holds
-    find-requires
+    place-from-requires
     sub-if1
     slice-aggregate-front
     front-requires

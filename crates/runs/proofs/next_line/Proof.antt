@@ -1,4 +1,4 @@
--- `next_line` makes the test of `next`, and its ways out are the cases of it; below the last number of 64 bits, 1 can be added.
+-- `next_line` makes the test of `nextLine`, and its ways out are the cases of it; below the last number of 64 bits, 1 can be added.
 -- Assumes nothing.
 use borrow.Author.Needs.{needs}
 use borrow.Author.Tests.{lt-ltb, le-ltb}

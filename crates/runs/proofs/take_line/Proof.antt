@@ -8,8 +8,8 @@ use Rattle.runs.proofs.take_line.Tie as tie
 read-line-requires : tie.Need-read-line-requires
 read-line-requires c κs = search needs
 
-obey-requires : tie.Need-obey-requires
-obey-requires c κs = search needs
+obeyed-requires : tie.Need-obeyed-requires
+obeyed-requires c κs = search needs
 
 put-row-requires : tie.Need-put-row-requires
 put-row-requires c κs = search needs
@@ -18,8 +18,8 @@ same-length : tie.Need-same-length
 same-length c = search needs
 
 returns : tie.Need-returns
-returns c = (let e = c .before .before .before .before .before .obey .ensures ∙ ap (λ x. obeyed x (c .before .before .before .before .before .before .before .before .before .args .t)) (c .before .before .before .before .before .before .read-line .ensures) in record { state = λ i. e i .state; bytes = rw (← e) (c .before .before .put-row .ensures .0); short = rw (← e) (c .before .before .put-row .ensures .1) })
+returns c = (let e = c .before .before .before .before .before .obeyed .ensures ∙ ap (λ x. obeyed x (c .before .before .before .before .before .before .before .before .before .args .t)) (c .before .before .before .before .before .before .read-line .ensures) in record { state = λ i. e i .state; bytes = rw (← e) (c .before .before .put-row .ensures .0); short = rw (← e) (c .before .before .put-row .ensures .1) })
 
 pub take-line-spec : {M : Type 1} → statement M
 take-line-spec =
-    tie.close (tie.spec read-line-requires obey-requires put-row-requires same-length returns)
+    tie.close (tie.spec read-line-requires obeyed-requires put-row-requires same-length returns)

@@ -36,14 +36,14 @@ on : (c : tie.Else1) → isSent (frameStep limit (c .before .before .before .bef
 on c = sym (c .before .is-sent .ensures ∙ ap (λ (st : Stepped). isSent (st .answer)) (c .before .before .frame .ensures)) ∙ not-false _ (c .if1 .left)
 
 -- the test of the fields
-tested : (c : tie.After-listed) → let a = c .before .before .before .before .before .before .before .args in c .listed .result ≡ dataListed (headOf (a .s) (a .destination) (a .source) (a .tag))
-tested c = c .listed .ensures ∙ ap dataListed (c .before .head .ensures)
+tested : (c : tie.After-data-listed) → let a = c .before .before .before .before .before .before .before .args in c .data-listed .result ≡ dataListed (headOf (a .s) (a .destination) (a .source) (a .tag))
+tested c = c .data-listed .ensures ∙ ap dataListed (c .before .head .ensures)
 
 head-requires : tie.Need-head-requires
 head-requires c κs = search needs
 
-listed-requires : tie.Need-listed-requires
-listed-requires c κs = search needs
+data-listed-requires : tie.Need-data-listed-requires
+data-listed-requires c κs = search needs
 
 refused-requires : tie.Need-refused-requires
 refused-requires c κs = search needs
@@ -140,7 +140,7 @@ next-frame-spec =
     is-sent-requires
     returns
     head-requires
-    listed-requires
+    data-listed-requires
     refused-requires
     returns-2
     frame-length-requires

@@ -37,7 +37,7 @@ returns-2 c =
     let read = refused .before .before in
     let start = read .before .before in
     let w = data-read (now (start .args .frame)) (lent start) (sym (refused .k .given .1) ∙ read .read-data .ensures) in
-    record { answer = c .number .ensures ∙ w .answer; lent = w .lent }
+    record { answer = c .number .ensures ∙ w .answer; leaves = w .leaves }
 
 pub sas-data-read-spec : {M : Type 1} → statement M
 sas-data-read-spec =

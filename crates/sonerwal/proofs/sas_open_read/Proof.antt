@@ -39,7 +39,7 @@ returns-2 c =
     let read = refused .before .before in
     let start = read .before .before in
     let w = open-read (now (start .args .frame)) (lent start) (sym (refused .k .given .1) ∙ read .read-open .ensures) in
-    record { answer = c .number .ensures ∙ w .answer; lent = w .lent }
+    record { answer = c .number .ensures ∙ w .answer; leaves = w .leaves }
 
 pub sas-open-read-spec : {M : Type 1} → statement M
 sas-open-read-spec =

@@ -7,17 +7,17 @@ use Rattle.xl.specs.Steps.{framed}
 use Rattle.xl.proofs.brings_unlisted.Statement.{statement}
 use Rattle.xl.proofs.brings_unlisted.Tie as tie
 
-listed-requires : tie.Need-listed-requires
-listed-requires c κs = search needs
+head-listed-requires : tie.Need-head-listed-requires
+head-listed-requires c κs = search needs
 
 has-frame-requires : tie.Need-has-frame-requires
 has-frame-requires c κs = search needs
 
 returns : tie.Need-returns
-returns c = sym (and-false (framed (c .before .before .before .args .e)) (ap not (sym (c .before .listed .ensures) ∙ c .if1 .taken)))
+returns c = sym (and-false (framed (c .before .before .before .args .e)) (ap not (sym (c .before .head-listed .ensures) ∙ c .if1 .taken)))
 
 returns-2 : tie.Need-returns-2
-returns-2 c = c .has-frame .ensures ∙ and-alone (framed (c .before .before .before .before .args .e)) (ap not (sym (c .before .before .listed .ensures) ∙ c .before .if1 .left))
+returns-2 c = c .has-frame .ensures ∙ and-alone (framed (c .before .before .before .before .args .e)) (ap not (sym (c .before .before .head-listed .ensures) ∙ c .before .if1 .left))
 
 pub brings-unlisted-spec : {M : Type 1} → statement M
-brings-unlisted-spec = tie.close (tie.spec listed-requires returns has-frame-requires returns-2)
+brings-unlisted-spec = tie.close (tie.spec head-listed-requires returns has-frame-requires returns-2)

@@ -9,14 +9,14 @@ enum-told c = search needs
 enum-known-h : tie.Need-enum-known-h
 enum-known-h c = search needs
 
-listed-requires : tie.Need-listed-requires
-listed-requires c κs = search needs
+head-listed-requires : tie.Need-head-listed-requires
+head-listed-requires c κs = search needs
 
 returns : tie.Need-returns
 returns c = rw (c .enum-told .given .1)
 
 returns-2 : tie.Need-returns-2
-returns-2 c = rw (c .listed .ensures, c .before .before .before .h .given .1)
+returns-2 c = rw (c .head-listed .ensures, c .before .before .before .h .given .1)
 
 pub is-fielded-spec : {M : Type 1} → statement M
-is-fielded-spec = tie.close (tie.spec enum-told enum-known-h listed-requires returns returns-2)
+is-fielded-spec = tie.close (tie.spec enum-told enum-known-h head-listed-requires returns returns-2)

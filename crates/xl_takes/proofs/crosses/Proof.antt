@@ -18,20 +18,20 @@ returns c = rw (c .stays .ensures, c .before .enum-told .given .1)
 was-seen-requires : tie.Need-was-seen-requires
 was-seen-requires c κs = search needs
 
-higher-requires : tie.Need-higher-requires
-higher-requires c κs = search needs
+higher-than-requires : tie.Need-higher-than-requires
+higher-than-requires c κs = search needs
 
 stays-requires-2 : tie.Need-stays-requires-2
 stays-requires-2 c κs = search needs
 
 returns-2 : tie.Need-returns-2
-returns-2 c = rw (c .stays2 .ensures, c .before .before .before .before .before .held .given .1, ← c .before .before .higher .ensures, ← c .before .before .before .was-seen .ensures, c .before .if1 .taken)
+returns-2 c = rw (c .stays2 .ensures, c .before .before .before .before .before .held .given .1, ← c .before .before .higher-than .ensures, ← c .before .before .before .was-seen .ensures, c .before .if1 .taken)
 
 backs-off-requires : tie.Need-backs-off-requires
 backs-off-requires c κs = search needs
 
 returns-3 : tie.Need-returns-3
-returns-3 c = rw (c .backs-off .ensures, c .before .before .before .before .before .held .given .1, ← c .before .before .higher .ensures, ← c .before .before .before .was-seen .ensures, c .before .if1 .left)
+returns-3 c = rw (c .backs-off .ensures, c .before .before .before .before .before .held .given .1, ← c .before .before .higher-than .ensures, ← c .before .before .before .was-seen .ensures, c .before .if1 .left)
 
 pub crosses-spec : {M : Type 1} → statement M
 crosses-spec =
@@ -42,7 +42,7 @@ crosses-spec =
     stays-requires
     returns
     was-seen-requires
-    higher-requires
+    higher-than-requires
     stays-requires-2
     returns-2
     backs-off-requires

@@ -4,27 +4,27 @@ use borrow.Author.Needs.{needs}
 use Rattle.port_core.proofs.submits.submit_checked.Statement.{statement}
 use Rattle.port_core.proofs.submits.submit_checked.Tie as tie
 
-listed-requires : tie.Need-listed-requires
-listed-requires c κs = search needs
+head-listed-requires : tie.Need-head-listed-requires
+head-listed-requires c κs = search needs
 
 returns : tie.Need-returns
-returns c = rw (← c .before .listed .ensures, c .if1 .taken)
+returns c = rw (← c .before .head-listed .ensures, c .if1 .taken)
 
 returns-2 : tie.Need-returns-2
-returns-2 c = rw (← c .before .before .listed .ensures, c .before .if1 .left, c .if2 .taken)
+returns-2 c = rw (← c .before .before .head-listed .ensures, c .before .if1 .left, c .if2 .taken)
 
 returns-3 : tie.Need-returns-3
-returns-3 c = rw (← c .before .before .before .before .before .listed .ensures, c .before .before .before .before .if1 .left, c .before .before .before .if2 .left, lt-ltb _ _ (c .if3 .taken))
+returns-3 c = rw (← c .before .before .before .before .before .head-listed .ensures, c .before .before .before .before .if1 .left, c .before .before .before .if2 .left, lt-ltb _ _ (c .if3 .taken))
 
 returns-4 : tie.Need-returns-4
-returns-4 c = rw (← c .before .before .before .before .before .before .listed .ensures, c .before .before .before .before .before .if1 .left, c .before .before .before .before .if2 .left, le-ltb _ _ (c .before .if3 .left), c .if4 .taken)
+returns-4 c = rw (← c .before .before .before .before .before .before .head-listed .ensures, c .before .before .before .before .before .if1 .left, c .before .before .before .before .if2 .left, le-ltb _ _ (c .before .if3 .left), c .if4 .taken)
 
 returns-5 : tie.Need-returns-5
-returns-5 c = rw (← c .before .before .before .before .before .before .before .before .listed .ensures, c .before .before .before .before .before .before .before .if1 .left, c .before .before .before .before .before .before .if2 .left, le-ltb _ _ (c .before .before .before .if3 .left), c .before .before .if4 .left, le-leb _ _ (c .if5 .taken))
+returns-5 c = rw (← c .before .before .before .before .before .before .before .before .head-listed .ensures, c .before .before .before .before .before .before .before .if1 .left, c .before .before .before .before .before .before .if2 .left, le-ltb _ _ (c .before .before .before .if3 .left), c .before .before .if4 .left, le-leb _ _ (c .if5 .taken))
 
 returns-6 : tie.Need-returns-6
-returns-6 c = rw (← c .before .before .before .before .before .before .before .before .listed .ensures, c .before .before .before .before .before .before .before .if1 .left, c .before .before .before .before .before .before .if2 .left, le-ltb _ _ (c .before .before .before .if3 .left), c .before .before .if4 .left, lt-leb _ _ (c .if5 .left))
+returns-6 c = rw (← c .before .before .before .before .before .before .before .before .head-listed .ensures, c .before .before .before .before .before .before .before .if1 .left, c .before .before .before .before .before .before .if2 .left, le-ltb _ _ (c .before .before .before .if3 .left), c .before .before .if4 .left, lt-leb _ _ (c .if5 .left))
 
 pub submit-checked-spec : {M : Type 1} → statement M
 submit-checked-spec =
-    tie.close (tie.spec listed-requires returns returns-2 returns-3 returns-4 returns-5 returns-6)
+    tie.close (tie.spec head-listed-requires returns returns-2 returns-3 returns-4 returns-5 returns-6)

@@ -12,7 +12,7 @@ use borrow.Author.Tests.{not-true, not-false}
 use Rattle.laws.proofs.Bools.{and-true, and-false}
 use Rattle.wire.proofs.Laws.{found}
 use Rattle.refusals.proofs.Frames.{by-length, by-field, by-none}
-use Rattle.ssp_frame.specs.Header.{headerOf, blank}
+use Rattle.ssp_frame.specs.Header.{headerOf, isBlank}
 use Rattle.ssp_frame.specs.Data.{frameSized, kindListed, filled, dataOf, readData}
 use Rattle.ssp_frame.specs.declared.header.Header.{Header}
 use Rattle.ssp_frame.specs.declared.data.DataRead.the-variants.{Frame, Refused}
@@ -28,7 +28,7 @@ returns : tie.Need-returns
 unfolding readData
 returns c =
     let s = now (c .before .before .before .args .s) in
-    by-length Refused (Frame (dataOf s)) ((blank s && kindListed (headerOf s)) && filled s) (sym (c .before .frame-sized .ensures) ∙ not-true _ (c .if1 .taken))
+    by-length Refused (Frame (dataOf s)) ((isBlank s && kindListed (headerOf s)) && filled s) (sym (c .before .frame-sized .ensures) ∙ not-true _ (c .if1 .taken))
 
 -- the length is a frame's
 size : (c : tie.Else1) → frameSized (length (now (c .before .before .before .args .s))) ≡ true
@@ -47,10 +47,10 @@ kind-listed-requires : tie.Need-kind-listed-requires
 kind-listed-requires c κs = search needs
 
 -- what the second test tests, and that the header is one of DATA behind it
-tested : (c : tie.After-kind-listed) → let s = now (c .before .before .before .before .before .before .args .s) in c .before .is-blank .result && c .kind-listed .result ≡ blank s && kindListed (headerOf s)
+tested : (c : tie.After-kind-listed) → let s = now (c .before .before .before .before .before .before .args .s) in c .before .is-blank .result && c .kind-listed .result ≡ isBlank s && kindListed (headerOf s)
 tested c = λ i. c .before .is-blank .ensures i && (c .kind-listed .ensures ∙ ap kindListed (c .before .before .header-of .ensures)) i
 
-header : (c : tie.Else2) → let s = now (c .before .before .before .before .before .before .before .args .s) in blank s && kindListed (headerOf s) ≡ true
+header : (c : tie.Else2) → let s = now (c .before .before .before .before .before .before .before .args .s) in isBlank s && kindListed (headerOf s) ≡ true
 header c = sym (tested (c .before)) ∙ not-false _ (c .if2 .left)
 
 headers : (c : tie.Else2) → Laid (now (c .before .before .before .before .before .before .before .args .s))
@@ -99,7 +99,7 @@ returns-3 c =
     let else2 = c .before .before .before in
     let else1 = else2 .before .before .before .before in
     let s = now (else1 .before .before .before .args .s) in
-    by-field Refused (Frame (dataOf s)) (size else1) (and-false (blank s && kindListed (headerOf s)) (sym (full (c .before)) ∙ not-true _ (c .if3 .taken)))
+    by-field Refused (Frame (dataOf s)) (size else1) (and-false (isBlank s && kindListed (headerOf s)) (sym (full (c .before)) ∙ not-true _ (c .if3 .taken)))
 
 sub-t11 : tie.Need-sub-t11
 sub-t11 c = omega (arith, sizes (c .before .before .before .before .before .before .before) .least)

@@ -35,23 +35,23 @@ sized c = sym (c .before .data-sized .ensures) ∙ not-false _ (c .if1 .left)
 fits : (c : tie.Else1) → let a = c .before .before .before .before .args in Fitting (length (now (a .body))) (length (now (a .out)))
 fits c = let a = c .before .before .before .before .args in fitting (length (now (a .body))) (length (now (a .out))) (sized c)
 
-listed-requires : tie.Need-listed-requires
-listed-requires c κs = search needs
+data-listed-requires : tie.Need-data-listed-requires
+data-listed-requires c κs = search needs
 
 returns-2 : tie.Need-returns-2
 returns-2 c =
     let else1 = c .before .before in
     let a = else1 .before .before .before .before .args in
-    wrote-field (dataLeft (a .h) (now (a .body)) (now (a .out))) (now (a .out)) (sized else1) (sym (c .before .listed .ensures) ∙ not-true _ (c .if2 .taken))
+    wrote-field (dataLeft (a .h) (now (a .body)) (now (a .out))) (now (a .out)) (sized else1) (sym (c .before .data-listed .ensures) ∙ not-true _ (c .if2 .taken))
 
 fill-of-requires : tie.Need-fill-of-requires
 fill-of-requires c κs = search needs
 
-cast-header-for : tie.Need-cast-header-for
-cast-header-for c = search needs
+cast-data-header : tie.Need-cast-data-header
+cast-data-header c = search needs
 
-header-for-requires : tie.Need-header-for-requires
-header-for-requires c κs = search needs
+data-header-requires : tie.Need-data-header-requires
+data-header-requires c κs = search needs
 
 put-header-requires : tie.Need-put-header-requires
 put-header-requires c κs = omega (arith, fits (c .before .before .before .before .before) .room)
@@ -93,8 +93,8 @@ returns-3 c =
     let body = now (a .body) in
     let out = now (a .out) in
     let fill = at-fill .fill-of .result in
-    let w = wrote-done (dataLeft (a .h) body out) out (sized else1) (sym (else2 .before .listed .ensures) ∙ not-false _ (else2 .if2 .left)) in
-    let header : put .put-header .last .1 .0 ≡ layBytes (headerFields (dataHeader (a .h) fill)) ++ drop 24 out = put .put-header .ensures ∙ ap (λ (h : Header). layBytes (headerFields h) ++ drop 24 out) (at-header .header-for .ensures) in
+    let w = wrote-done (dataLeft (a .h) body out) out (sized else1) (sym (else2 .before .data-listed .ensures) ∙ not-false _ (else2 .if2 .left)) in
+    let header : put .put-header .last .1 .0 ≡ layBytes (headerFields (dataHeader (a .h) fill)) ++ drop 24 out = put .put-header .ensures ∙ ap (λ (h : Header). layBytes (headerFields h) ++ drop 24 out) (at-header .data-header .ensures) in
     let frame = framed (layBytes (headerFields (dataHeader (a .h) fill))) body out (put .put-header .last .1 .0) (payload .put-payload .last .1 .1 .0) fill refl header (payload .put-payload .ensures) in
     let same : (layBytes (headerFields (dataHeader (a .h) fill)) ++ (body ++ replicate fill 0)) ++ drop (24 + length body + fill) out ≡ dataLeft (a .h) body out = ap (λ (f : ℕ). (layBytes (headerFields (dataHeader (a .h) f)) ++ (body ++ replicate f 0)) ++ drop (24 + length body + f) out) (at-fill .fill-of .ensures) in
     record { answer = w .answer; bytes = frame ∙ same ∙ w .bytes }
@@ -105,11 +105,11 @@ write-data-spec =
     (tie.spec
     data-sized-requires
     returns
-    listed-requires
+    data-listed-requires
     returns-2
     fill-of-requires
-    cast-header-for
-    header-for-requires
+    cast-data-header
+    data-header-requires
     put-header-requires
     sub-put-payload
     part-put-payload-start

@@ -1,4 +1,4 @@
--- `is_blank` tests the parts of words that `blank` tests byte by byte. Assumes nothing.
+-- `is_blank` tests the parts of words that `isBlank` tests byte by byte. Assumes nothing.
 use mathlib.Core.Path.{_∙_, ap}
 use mathlib.Core.Bool.{_&&_}
 use Prim.Native.Nat.{ℕ, _/_, _%_, _<_, _≤_}

@@ -25,12 +25,12 @@ returns-2 : tie.Need-returns-2
 unfolding endStep
 returns-2 c = rw (on (c .before .before .before .before .taken .ensures) (c .before .before .before .if1 .left), off (c .before .before .unfinished .ensures) (c .before .if2 .taken)) (c .refused2 .ensures)
 
-told-requires : tie.Need-told-requires
-told-requires c κs = search needs
+in-phase-requires : tie.Need-in-phase-requires
+in-phase-requires c κs = search needs
 
 returns-3 : tie.Need-returns-3
 unfolding endStep
-returns-3 c = rw (on (c .before .before .before .before .taken .ensures) (c .before .before .before .if1 .left), on (c .before .before .unfinished .ensures) (c .before .if2 .left)) (c .told .ensures)
+returns-3 c = rw (on (c .before .before .before .before .taken .ensures) (c .before .before .before .if1 .left), on (c .before .before .unfinished .ensures) (c .before .if2 .left)) (c .in-phase .ensures)
 
 pub cancel-spec : {M : Type 1} → statement M
 cancel-spec =
@@ -42,5 +42,5 @@ cancel-spec =
     unfinished-requires
     refused-requires-2
     returns-2
-    told-requires
+    in-phase-requires
     returns-3)

@@ -1,6 +1,6 @@
--- `nak` is refused by its check, or goes on to `naked`. Assumes nothing.
+-- `nak` is refused by its check, or goes on to `nacked`. Assumes nothing.
 use borrow.Author.Needs.{needs}
-use Rattle.transfer.specs.Steps.{limit, refused, answered, naked, answerCauses, nakStep}
+use Rattle.transfer.specs.Steps.{limit, refused, answered, nacked, answerCauses, nakStep}
 use Rattle.refusals.proofs.Causes.{goes-on, stops}
 use Rattle.transfer.proofs.Calls.{answerable}
 use Rattle.transfer.proofs.Transfer.nak.Statement.{statement}
@@ -19,7 +19,7 @@ returns : tie.Need-returns
 unfolding nakStep
 returns c =
     let s = c .before .before .before .before .before .args .self in
-    stops (refused s) (naked (answered s)) (answerCauses limit s) (c .before .before .before .before .answer-checked .ensures) (c .before .before .checked .given .1) (c .refused .ensures)
+    stops (refused s) (nacked (answered s)) (answerCauses limit s) (c .before .before .before .before .answer-checked .ensures) (c .before .before .checked .given .1) (c .refused .ensures)
 
 enum-told : tie.Need-enum-told
 enum-told c = search needs
@@ -29,14 +29,14 @@ sub-self c =
     let told = c .before in
     answerable limit (told .before .before .before .args .self) (told .before .before .answer-checked .ensures) (told .enum-told .given .1) .some
 
-naked-requires : tie.Need-naked-requires
-naked-requires c κs = search needs
+nacked-requires : tie.Need-nacked-requires
+nacked-requires c κs = search needs
 
 returns-2 : tie.Need-returns-2
 unfolding nakStep
 returns-2 c =
     let s = c .before .before .before .before .before .args .self in
-    goes-on (refused s) (naked (answered s)) (answerCauses limit s) (c .before .before .before .before .answer-checked .ensures) (c .before .before .enum-told .given .1) (c .naked .ensures)
+    goes-on (refused s) (nacked (answered s)) (answerCauses limit s) (c .before .before .before .before .answer-checked .ensures) (c .before .before .enum-told .given .1) (c .nacked .ensures)
 
 pub nak-spec : {M : Type 1} → statement M
 nak-spec =
@@ -48,5 +48,5 @@ nak-spec =
     returns
     enum-told
     sub-self
-    naked-requires
+    nacked-requires
     returns-2)

@@ -35,12 +35,12 @@ returns-2 : tie.Need-returns-2
 unfolding startStep
 returns-2 c = rw (tested (c .before .before .before .before) ∙ c .before .before .before .if1 .left, sym (c .before .before .unfinished .ensures) ∙ c .before .if2 .taken) (c .refused2 .ensures)
 
-told-requires : tie.Need-told-requires
-told-requires c κs = search needs
+in-phase-requires : tie.Need-in-phase-requires
+in-phase-requires c κs = search needs
 
 returns-3 : tie.Need-returns-3
 unfolding startStep
-returns-3 c = rw (tested (c .before .before .before .before) ∙ c .before .before .before .if1 .left, sym (c .before .before .unfinished .ensures) ∙ c .before .if2 .left) (c .told .ensures)
+returns-3 c = rw (tested (c .before .before .before .before) ∙ c .before .before .before .if1 .left, sym (c .before .before .unfinished .ensures) ∙ c .before .if2 .left) (c .in-phase .ensures)
 
 pub start-spec : {M : Type 1} → statement M
 start-spec =
@@ -53,5 +53,5 @@ start-spec =
     unfinished-requires
     refused-requires-2
     returns-2
-    told-requires
+    in-phase-requires
     returns-3)

@@ -24,14 +24,14 @@ returns c =
 enum-told : tie.Need-enum-told
 enum-told c = search needs
 
-told-requires : tie.Need-told-requires
-told-requires c κs = search needs
+in-phase-requires : tie.Need-in-phase-requires
+in-phase-requires c κs = search needs
 
 returns-2 : tie.Need-returns-2
 unfolding dropStep dropped
 returns-2 c =
     let s = c .before .before .before .before .before .before .args .self in
-    goes-on (refused s) (dropped s) (answerCauses limit s) (c .before .before .before .before .before .answer-checked .ensures) (c .before .before .before .enum-told .given .1) (rw (le-leb _ _ (c .before .if1 .taken)) (c .told .ensures))
+    goes-on (refused s) (dropped s) (answerCauses limit s) (c .before .before .before .before .before .answer-checked .ensures) (c .before .before .before .enum-told .given .1) (rw (le-leb _ _ (c .before .if1 .taken)) (c .in-phase .ensures))
 
 resent-requires : tie.Need-resent-requires
 resent-requires c κs = search needs
@@ -51,7 +51,7 @@ timeout-spec =
     refused-requires
     returns
     enum-told
-    told-requires
+    in-phase-requires
     returns-2
     resent-requires
     returns-3)

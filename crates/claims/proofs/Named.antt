@@ -1,0 +1,119 @@
+-- What the calls of frames and of a transfer were given, lent and left, by name. The checker has a call's arguments as pairs within
+-- pairs, in the order of its source; they are counted out here alone, C's as include/sonerwal.h lists them. Assumes nothing.
+use Prim.Native.Nat.{ℕ}
+use mathlib.Core.List.{List, [], _∷_, _++_, map}
+use lib.ListN.{getD}
+use denote.Ref.{now}
+use Rattle.refusals.specs.declared.Written.{Written}
+use Rattle.open_frame.specs.declared.OpenFrame.{OpenFrame}
+use Rattle.open_frame.specs.declared.OpenRead.{OpenRead}
+use Rattle.ssp_frame.specs.declared.data.DataHead.{DataHead}
+use Rattle.ssp_frame.specs.declared.data.DataFrame.{DataFrame}
+use Rattle.ssp_frame.specs.declared.data.DataRead.{DataRead}
+use Rattle.transfer.specs.Calls.{Call, start}
+use Rattle.transfer.specs.declared.Stepped.{Stepped}
+use Rattle.send.specs.Send.{headOf}
+use Rattle.send.specs.Calls as sending
+use Rattle.sonerwal.specs.Face.{Read, Write, DataGiven, open9, data5, data6}
+use Rattle.claims.proofs.Calls.{ReadOpen, WriteOpen, ReadData, WriteData, SasOpenRead, SasOpenWrite, SasDataRead, SasDataWrite, Start, NextFrame}
+
+-- three, six and nine of A, whatever R stands behind them
+abbrev pub first3 : {A R : Type 0} → A × (A × (A × R)) → List A
+first3 x = x .0 ∷ x .1 .0 ∷ x .1 .1 .0 ∷ []
+
+abbrev pub behind3 : {A B C R : Type 0} → A × (B × (C × R)) → R
+behind3 x = x .1 .1 .1
+
+abbrev pub first6 : {A R : Type 0} → A × (A × (A × (A × (A × (A × R))))) → List A
+first6 x = first3 x ++ first3 (behind3 x)
+
+abbrev pub first9 : {A R : Type 0} → A × (A × (A × (A × (A × (A × (A × (A × (A × R)))))))) → List A
+first9 x = first6 x ++ first3 (behind3 (behind3 x))
+
+abbrev pub behind9 : {A B C D E F G H I R : Type 0} → A × (B × (C × (D × (E × (F × (G × (H × (I × R)))))))) → R
+behind9 x = behind3 (behind3 (behind3 x))
+
+-- numbers by their places, as an OPEN frame, as the head of a DATA frame and as a DATA frame
+abbrev pub open-of : List ℕ → OpenFrame
+open-of ns = open9 (getD ns 0 0) (getD ns 1 0) (getD ns 2 0) (getD ns 3 0) (getD ns 4 0) (getD ns 5 0) (getD ns 6 0) (getD ns 7 0) (getD ns 8 0)
+
+abbrev pub head-of : List ℕ → DataHead
+head-of ns = data5 (getD ns 0 0) (getD ns 1 0) (getD ns 2 0) (getD ns 3 0) (getD ns 4 0)
+
+abbrev pub data-of : List ℕ → DataFrame
+data-of ns = data6 (getD ns 0 0) (getD ns 1 0) (getD ns 2 0) (getD ns 3 0) (getD ns 4 0) (getD ns 5 0)
+
+-- ---- the calls from Rattle; a reader is lent no fields
+
+abbrev pub open-read : ReadOpen → Read OpenRead (Unit {0})
+open-read c = record { frame = now (c .args .0); lent = tt; answer = c .answer; left = tt }
+
+abbrev pub open-write : WriteOpen → Write Written OpenFrame
+open-write c = record { given = c .args .0; lent = now (c .args .1 .0); answer = c .answer; left = now (c .exit .1 .0) }
+
+abbrev pub data-read : ReadData → Read DataRead (Unit {0})
+data-read c = record { frame = now (c .args .0); lent = tt; answer = c .answer; left = tt }
+
+abbrev pub data-write : WriteData → Write Written DataGiven
+data-write c =
+    let out = c .args .1 .1 .0 in
+    record { given = record { head = c .args .0; body = now (c .args .1 .0) }; lent = now out; answer = c .answer; left = now (c .exit .1 .1 .0) }
+
+-- ---- the calls from C
+
+-- the numbers that a reader was lent and left, and that a writer was given, in the order of the calls
+abbrev pub open-lent : SasOpenRead → List ℕ
+open-lent c = map now (first9 (c .args .1))
+
+abbrev pub open-left : SasOpenRead → List ℕ
+open-left c = map now (first9 (c .exit .1))
+
+abbrev pub open-given : SasOpenWrite → List ℕ
+open-given c = first9 (c .args)
+
+abbrev pub data-lent : SasDataRead → List ℕ
+data-lent c = map now (first6 (c .args .1))
+
+abbrev pub data-left : SasDataRead → List ℕ
+data-left c = map now (first6 (c .exit .1))
+
+abbrev pub data-given : SasDataWrite → List ℕ
+data-given c = let more = behind3 (c .args) in first3 (c .args) ++ (more .0 ∷ more .1 .0 ∷ [])
+
+abbrev pub c-open-read : SasOpenRead → Read ℕ OpenFrame
+c-open-read c = record { frame = now (c .args .0); lent = open-of (open-lent c); answer = c .answer; left = open-of (open-left c) }
+
+abbrev pub c-open-write : SasOpenWrite → Write ℕ OpenFrame
+c-open-write c = record { given = open-of (open-given c); lent = now (behind9 (c .args) .0); answer = c .answer; left = now (behind9 (c .exit) .0) }
+
+abbrev pub c-data-read : SasDataRead → Read ℕ DataFrame
+c-data-read c = record { frame = now (c .args .0); lent = data-of (data-lent c); answer = c .answer; left = data-of (data-left c) }
+
+abbrev pub c-data-write : SasDataWrite → Write ℕ DataGiven
+c-data-write c =
+    let slices = behind3 (c .args) .1 .1 in
+    record { given = record { head = head-of (data-given c); body = now (slices .0) }; lent = now (slices .1 .0); answer = c .answer; left = now (behind3 (behind3 (c .exit)) .0) }
+
+-- ---- the calls of a transfer
+
+-- START's four numbers
+abbrev pub asking : Start → Call
+asking c = let b = c .args .1 in let n = b .1 in let m = n .1 in let r = m .1 in start (b .0) (n .0) (m .0) (r .0)
+
+-- the next-frame call's three, its data and its output
+abbrev pub next-numbers : NextFrame → List ℕ
+next-numbers c = first3 (c .args .1)
+
+abbrev pub next-write : NextFrame → Write Stepped DataGiven
+next-write c =
+    let ns = next-numbers c in
+    let slices = behind3 (c .args .1) in
+    record {
+      given = record { head = headOf (c .args .0) (getD ns 0 0) (getD ns 1 0) (getD ns 2 0); body = now (slices .0) };
+      lent = now (slices .1 .0);
+      answer = c .answer;
+      left = now (behind3 (c .exit .1) .1 .0);
+    }
+
+abbrev pub next-call : NextFrame → sending.Call
+next-call c = let ns = next-numbers c in sending.Call.next (getD ns 0 0) (getD ns 1 0) (getD ns 2 0) (next-write c .given .body) (next-write c .lent)
