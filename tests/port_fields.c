@@ -172,17 +172,62 @@ static void change_field(void *thing, const void *brother, const struct field *f
 	put(thing, field, another(get(thing, field), brother, field));
 }
 
-void change_port(struct port *port)
+static void change_port(struct port *port)
 {
 	change_field(port, port, port_fields, COUNT(port_fields));
 }
 
-void change_phy(struct phy *phy, const struct phy *brother)
+static void change_phy(struct phy *phy, const struct phy *brother)
 {
 	change_field(phy, brother, phy_fields, COUNT(phy_fields));
 }
 
-void change_request(struct request *request, const struct request *brother)
+static void change_request(struct request *request, const struct request *brother)
 {
 	change_field(request, brother, request_fields, COUNT(request_fields));
+}
+
+/* A record that is present, mostly. */
+static struct request *some_record(struct request *list)
+{
+	unsigned from = (unsigned)noise_below(SLOTS);
+	for (unsigned i = 0; i < SLOTS && noise_below(50); i++) {
+		if (list[(from + i) % SLOTS].stage != 0) {
+			return &list[(from + i) % SLOTS];
+		}
+	}
+	return &list[from];
+}
+
+/* A phy that names a request goes on to another stage in which it may. */
+static void change_stage(struct port *port)
+{
+	static const uint8_t stages[] = {2, 4, 5, 6};
+	unsigned from = (unsigned)noise_below(PHYS);
+	for (unsigned i = 0; i < PHYS; i++) {
+		struct phy *phy = &port->phys[(from + i) % PHYS];
+		if (phy->slot < SLOTS) {
+			phy->stage = stages[noise_below(COUNT(stages))];
+			return;
+		}
+	}
+}
+
+void change_state(struct port *port, struct request *list)
+{
+	switch (noise_below(9)) {
+	case 0:
+		change_port(port);
+		break;
+	case 1:
+	case 2:
+		change_phy(&port->phys[noise_below(PHYS)], &port->phys[noise_below(PHYS)]);
+		break;
+	case 3:
+		change_stage(port);
+		break;
+	default:
+		change_request(some_record(list), some_record(list));
+		break;
+	}
 }

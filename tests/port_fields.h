@@ -19,9 +19,7 @@ void compare_answer(struct difference *d, const struct said *expected, const str
 void compare_port(struct difference *d, const struct port *expected, const struct port *found, bool odd);
 void compare_list(struct difference *d, const struct request *expected, const struct request *found, size_t length, bool odd);
 
-/* Give one field another value, often that of the same field of a brother. */
-void change_port(struct port *port);
-void change_phy(struct phy *phy, const struct phy *brother);
-void change_request(struct request *request, const struct request *brother);
+/* Gives one field another value, often that of the same field of another phy or record. */
+void change_state(struct port *port, struct request *list);
 
 #endif
