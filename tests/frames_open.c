@@ -13,6 +13,8 @@
 #include "plain.h"
 #include "sonerwal.h"
 
+#include <stdbool.h>
+
 enum {
 	OPENS = 1000000,  /* OPEN buffers read */
 	OPEN_LENGTHS = 64 /* OPEN buffers have 0 to this many bytes, if not 28 */
@@ -59,7 +61,8 @@ static bool uncarried_not_zero(const uint8_t *frame)
 	return (frame[20] | frame[24] | frame[25] | frame[26] | frame[27]) != 0;
 }
 
-static void open_read_case(struct test *test, size_t len)
+/* Gives whether the model takes the frame. */
+static bool open_read_case(struct test *test, size_t len)
 {
 	uint64_t seen[SEEN];
 	struct number *n = lent_ours.number;
@@ -74,6 +77,7 @@ static void open_read_case(struct test *test, size_t len)
 	                               &n[OPEN_DESTINATION].at.u64, &n[OPEN_SOURCE].at.u64, &n[OPEN_PBC].at.u8,
 	                               &n[OPEN_AWT].at.u16);
 	judge(test, &open_read, answer, faults, seen);
+	return faults == 0;
 }
 
 static void open_write_case(struct test *test, const uint64_t v[OPEN_FIELDS], size_t len)
@@ -94,8 +98,8 @@ static void open_write_case(struct test *test, const uint64_t v[OPEN_FIELDS], si
 static void lend_valid_open(void)
 {
 	uint64_t values[OPEN_FIELDS];
-	uint8_t *frame = frame_of(&lent_ours);
 	lend(SAS_OPEN_SIZE, 0);
+	uint8_t *frame = frame_of(&lent_ours);
 	draw_all(open_fields, OPEN_FIELDS, values);
 	plain_open_write(values, frame, 28);
 	if (noise_below(2) == 0) {
@@ -114,7 +118,9 @@ static void open_read_valid(struct test *test)
 {
 	for (long i = 0; i < OPENS / 2; i++) {
 		lend_valid_open();
-		open_read_case(test, SAS_OPEN_SIZE);
+		if (!open_read_case(test, SAS_OPEN_SIZE)) {
+			test->failed++;
+		}
 	}
 }
 
