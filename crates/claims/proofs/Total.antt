@@ -71,6 +71,10 @@ use Rattle.lines.proofs.put_bytes.Kinds as put-bytes-of
 use Rattle.lines.proofs.put_bytes.Reads as put-bytes
 use Rattle.lines.proofs.put_number.Kinds as put-number-of
 use Rattle.lines.proofs.put_number.Reads as put-number
+use Rattle.streams.proofs.read.Kinds as stream-read-of
+use Rattle.streams.proofs.read.Reads as stream-read
+use Rattle.streams.proofs.write.Kinds as stream-write-of
+use Rattle.streams.proofs.write.Reads as stream-write
 use Rattle.runs.proofs.fresh.Kinds as fresh-of
 use Rattle.runs.proofs.fresh.Reads as fresh
 use Rattle.runs.proofs.take_line.Kinds as take-line-of
@@ -251,6 +255,8 @@ pub record Total : Type 2 where
   pub put-byte : Anything 1 put-byte-of.ps put-byte.Pre
   pub put-bytes : Anything 2 put-bytes-of.ps put-bytes.Pre
   pub put-number : Anything 1 put-number-of.ps put-number.Pre
+  pub stream-read : Anything 2 stream-read-of.ps stream-read.Pre
+  pub stream-write : Anything 2 stream-write-of.ps stream-write.Pre
   pub fresh : Anything 0 fresh-of.ps fresh.Pre
   pub take-line : Anything 2 take-line-of.ps take-line.Pre
   pub feed : Anything 2 feed-of.ps feed.Pre
@@ -367,6 +373,8 @@ total = record {
   put-byte = λ κs a. tt;
   put-bytes = λ κs a. tt;
   put-number = λ κs a. tt;
+  stream-read = λ κs a. tt;
+  stream-write = λ κs a. tt;
   fresh = λ κs a. tt;
   take-line = λ κs a. tt;
   feed = λ κs a. tt;

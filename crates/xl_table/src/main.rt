@@ -31,8 +31,11 @@ use xl_parts::State;
 use xl_parts::Stepped;
 use xl_parts::Wait;
 
+// What fails is said, and once: nothing here stops at it, so standard error is closed behind the first line.
 fn text(s: &[u8]) {
-    io::write_all(1, s);
+    if !streams::write(libc::STDOUT_FILENO, s, b"xl_table: writing") {
+        libc::close(libc::STDERR_FILENO);
+    }
 }
 
 fn sign(c: u8) {
@@ -41,7 +44,13 @@ fn sign(c: u8) {
 }
 
 fn number(n: u8) {
-    io::print_decimal(1, n as u64);
+    decimal(n as u64);
+}
+
+fn decimal(n: u64) {
+    let mut digits = [0u8; 20];
+    let k = io::decimal(n, &mut digits);
+    text(&digits[..k]);
 }
 
 fn phase(n: u8) -> Phase {
@@ -683,9 +692,9 @@ fn count_after(s: State, e: Event) -> u32 {
 fn print_count(count: u32) {
     let after = count_after(counting(count), Event::Line(Primitive::Close));
     text(b"count\t");
-    io::print_decimal(1, count as u64);
+    decimal(count as u64);
     sign(b'\t');
-    io::print_decimal(1, after as u64);
+    decimal(after as u64);
     sign(b'\n');
 }
 

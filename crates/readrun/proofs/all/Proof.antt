@@ -22,59 +22,65 @@ fresh-requires c κs = tt
 loop-holds : tie.Need-loop-holds Inv-loop μ-loop
 loop-holds c = (refl, refl, c .before .before .before .pre)
 
-read-requires : tie.Need-read-requires Inv-loop μ-loop
-read-requires c κs = tt
-
-count-requires : tie.Need-count-requires Inv-loop μ-loop
-count-requires c κs = tt
-
-slice-reshare-prefix-block : tie.Need-slice-reshare-prefix-block Inv-loop μ-loop
-slice-reshare-prefix-block c = c .count .ensures .0 .0
-
-slice-aggregate-block : tie.Need-slice-aggregate-block Inv-loop μ-loop
-slice-aggregate-block c = c .before .count .ensures .0 .1
-
-block-requires : tie.Need-block-requires Inv-loop μ-loop
-block-requires c κs = omega (arith, c .before .before .before .before .before .before .before .before .before .before .loop .inv .1, c .before .before .before .before .before .before .before .before .before .before .loop .inv .2)
+get-requires : tie.Need-get-requires Inv-loop μ-loop
+get-requires c κs = tt
 
 same-length : tie.Need-same-length Inv-loop μ-loop
-same-length c = omega (arith, c .before .before .before .before .before .before .before .before .before .before .before .before .read .kept, c .before .before .before .before .before .before .before .before .before .before .before .before .before .before .before .loop .inv .0)
+same-length c = omega arith
 
 same-length-2 : tie.Need-same-length-2 Inv-loop μ-loop
-same-length-2 c = omega (arith, c .before .before .before .before .block .kept, c .before .before .before .before .before .before .before .before .before .before .before .before .before .before .before .loop .inv .1)
+same-length-2 c = omega arith
 
 returns : tie.Need-returns Inv-loop μ-loop
 returns c = tt
 
+slice-reshare-prefix-block : tie.Need-slice-reshare-prefix-block Inv-loop μ-loop
+slice-reshare-prefix-block c = omega arith
+
+slice-aggregate-block : tie.Need-slice-aggregate-block Inv-loop μ-loop
+slice-aggregate-block c = c .before .before .before .before .before .get .ensures .1
+
+block-requires : tie.Need-block-requires Inv-loop μ-loop
+block-requires c κs = omega arith
+
+same-length-3 : tie.Need-same-length-3 Inv-loop μ-loop
+same-length-3 c = omega arith
+
+same-length-4 : tie.Need-same-length-4 Inv-loop μ-loop
+same-length-4 c = omega arith
+
+returns-2 : tie.Need-returns-2 Inv-loop μ-loop
+returns-2 c = tt
+
 sub-turns : tie.Need-sub-turns Inv-loop μ-loop
-sub-turns c = c .before .before .before .before .before .before .before .before .before .before .before .before .before .before .before .loop-test .taken
+sub-turns c = omega arith
 
 loop-less : tie.Need-loop-less Inv-loop μ-loop
-loop-less c = omega (arith, c .before .before .before .before .before .before .before .before .before .before .before .before .before .before .before .loop-test .taken)
+loop-less c = omega arith
 
 loop-again : tie.Need-loop-again Inv-loop μ-loop
-loop-again c = (omega (arith, c .before .before .before .before .before .before .before .before .before .before .before .before .before .read .kept, c .before .before .before .before .before .before .before .before .before .before .before .before .before .before .before .before .loop .inv .0), omega (arith, c .before .before .before .before .before .block .kept, c .before .before .before .before .before .before .before .before .before .before .before .before .before .before .before .before .loop .inv .1), c .before .before .before .before .before .before .before .before .before .before .before .before .before .before .before .before .loop .inv .2)
+loop-again c = (omega arith, omega arith, omega arith)
 
 close-requires : tie.Need-close-requires Inv-loop μ-loop
 close-requires c κs = tt
 
-slice-reshare-prefix-write-all : tie.Need-slice-reshare-prefix-write-all Inv-loop μ-loop
-slice-reshare-prefix-write-all c = omega (arith, c .before .before .close .ensures .within, c .before .before .close .kept)
+slice-reshare-prefix-put : tie.Need-slice-reshare-prefix-put Inv-loop μ-loop
+slice-reshare-prefix-put c = omega arith
 
-slice-aggregate-write-all : tie.Need-slice-aggregate-write-all Inv-loop μ-loop
-slice-aggregate-write-all c = sym (length-take-le _ _ (omega (arith, c .before .before .before .close .ensures .within, c .before .before .before .close .kept)))
+slice-aggregate-put : tie.Need-slice-aggregate-put Inv-loop μ-loop
+slice-aggregate-put c = sym (length-take-le _ _ (omega arith))
 
-write-all-requires : tie.Need-write-all-requires Inv-loop μ-loop
-write-all-requires c κs = tt
+put-requires : tie.Need-put-requires Inv-loop μ-loop
+put-requires c κs = tt
 
-same-length-3 : tie.Need-same-length-3 Inv-loop μ-loop
-same-length-3 c = ⊎-elim (λ w. ap length (w .1) ∙ c .before .before .before .before .before .before .before .loop .inv .0) (λ w. ap length (w .6) ∙ w .2 .kept .1 .0 ∙ c .before .before .before .before .before .before .before .loop .inv .0) (c .before .before .before .before .before .before .loop-test .came)
+same-length-5 : tie.Need-same-length-5 Inv-loop μ-loop
+same-length-5 c = ⊎-elim (λ w. ap length (w .1) ∙ c .before .before .before .before .before .before .before .loop .inv .0) (λ w. ap length (w .7) ∙ w .2 .kept .0 ∙ c .before .before .before .before .before .before .before .loop .inv .0) (c .before .before .before .before .before .before .loop-test .came)
 
-same-length-4 : tie.Need-same-length-4 Inv-loop μ-loop
-same-length-4 c = omega (arith, c .before .before .before .before .close .kept, c .before .before .before .before .before .before .before .loop .inv .1)
+same-length-6 : tie.Need-same-length-6 Inv-loop μ-loop
+same-length-6 c = omega arith
 
-returns-2 : tie.Need-returns-2 Inv-loop μ-loop
-returns-2 c = tt
+returns-3 : tie.Need-returns-3 Inv-loop μ-loop
+returns-3 c = tt
 
 pub all-spec : {M : Type 1} → statement M
 all-spec =
@@ -84,21 +90,23 @@ all-spec =
     μ-loop
     fresh-requires
     loop-holds
-    read-requires
-    count-requires
-    slice-reshare-prefix-block
-    slice-aggregate-block
-    block-requires
+    get-requires
     same-length
     same-length-2
     returns
+    slice-reshare-prefix-block
+    slice-aggregate-block
+    block-requires
+    same-length-3
+    same-length-4
+    returns-2
     sub-turns
     loop-less
     loop-again
     close-requires
-    slice-reshare-prefix-write-all
-    slice-aggregate-write-all
-    write-all-requires
-    same-length-3
-    same-length-4
-    returns-2)
+    slice-reshare-prefix-put
+    slice-aggregate-put
+    put-requires
+    same-length-5
+    same-length-6
+    returns-3)

@@ -33,14 +33,14 @@ part-feed-end c = omega arith
 feed-requires : tie.Need-feed-requires Inv-loop μ-loop
 feed-requires c κs = tt
 
-slice-reshare-prefix-write-all : tie.Need-slice-reshare-prefix-write-all Inv-loop μ-loop
-slice-reshare-prefix-write-all c = omega (arith, c .before .before .before .feed .ensures .within, c .before .before .before .feed .kept)
+slice-reshare-prefix-put : tie.Need-slice-reshare-prefix-put Inv-loop μ-loop
+slice-reshare-prefix-put c = omega (arith, c .before .before .before .feed .ensures .within, c .before .before .before .feed .kept)
 
-slice-aggregate-write-all : tie.Need-slice-aggregate-write-all Inv-loop μ-loop
-slice-aggregate-write-all c = sym (length-take-le _ _ (omega (arith, c .before .before .before .before .feed .ensures .within, c .before .before .before .before .feed .kept)))
+slice-aggregate-put : tie.Need-slice-aggregate-put Inv-loop μ-loop
+slice-aggregate-put c = sym (length-take-le _ _ (omega (arith, c .before .before .before .before .feed .ensures .within, c .before .before .before .before .feed .kept)))
 
-write-all-requires : tie.Need-write-all-requires Inv-loop μ-loop
-write-all-requires c κs = tt
+put-requires : tie.Need-put-requires Inv-loop μ-loop
+put-requires c κs = tt
 
 same-length : tie.Need-same-length Inv-loop μ-loop
 same-length c = omega (arith, c .before .before .before .before .before .before .feed .kept, c .before .before .before .before .before .before .before .before .before .before .loop .inv .1)
@@ -74,9 +74,9 @@ block-spec =
     part-feed-start
     part-feed-end
     feed-requires
-    slice-reshare-prefix-write-all
-    slice-aggregate-write-all
-    write-all-requires
+    slice-reshare-prefix-put
+    slice-aggregate-put
+    put-requires
     same-length
     returns
     add-from
