@@ -93,8 +93,8 @@ use Rattle.xl_parts.proofs.goes.Kinds as goes-of
 use Rattle.xl_parts.proofs.goes.Reads as goes
 use Rattle.xl_parts.proofs.after.Kinds as after-of
 use Rattle.xl_parts.proofs.after.Reads as after
-use Rattle.xl_takes.proofs.takes.Kinds as takes-of
-use Rattle.xl_takes.proofs.takes.Reads as takes
+use Rattle.xl_core.proofs.takes.Kinds as takes-of
+use Rattle.xl_core.proofs.takes.Reads as takes
 use Rattle.xl.proofs.step.Kinds as xl-step-of
 use Rattle.xl.proofs.step.Reads as xl-step
 use Rattle.xl.proofs.receive.Kinds as xl-receive-of

@@ -124,7 +124,7 @@ fn answers(s: State, e: Event, f: OpenFrame) -> Stepped
     if !keeps_rules(s) {
         return refuses(s, Refusal::Rules);
     }
-    xl_takes::takes(s, e, f)
+    xl_core::takes(s, e, f)
 }
 
 // The same, put together anew.
