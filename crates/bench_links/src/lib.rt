@@ -147,7 +147,7 @@ pub extern "C" fn bench_links(events: &[u8], destination: u64, source: u64) -> u
 {
     let table = kinds();
     let mut t = Tally {
-        state: xl_parts::unlinked(),
+        state: xl_parts::ready(),
         sum: 0,
     };
     let mut i = 0;

@@ -79,14 +79,14 @@ use Rattle.runs.proofs.feed.Kinds as feed-of
 use Rattle.runs.proofs.feed.Reads as feed
 use Rattle.runs.proofs.close.Kinds as close-of
 use Rattle.runs.proofs.close.Reads as close
-use Rattle.xl_parts.proofs.unlinked.Kinds as unlinked-of
-use Rattle.xl_parts.proofs.unlinked.Reads as unlinked
-use Rattle.xl_parts.proofs.stays.Kinds as stays-of
-use Rattle.xl_parts.proofs.stays.Reads as stays
-use Rattle.xl_parts.proofs.goes.Kinds as goes-of
-use Rattle.xl_parts.proofs.goes.Reads as goes
-use Rattle.xl_parts.proofs.after.Kinds as after-of
-use Rattle.xl_parts.proofs.after.Reads as after
+use Rattle.xl_parts.proofs.ready.Kinds as ready-of
+use Rattle.xl_parts.proofs.ready.Reads as ready
+use Rattle.xl_parts.proofs.stay.Kinds as stay-of
+use Rattle.xl_parts.proofs.stay.Reads as stay
+use Rattle.xl_parts.proofs.to.Kinds as to-of
+use Rattle.xl_parts.proofs.to.Reads as to
+use Rattle.xl_parts.proofs.ahead.Kinds as ahead-of
+use Rattle.xl_parts.proofs.ahead.Reads as ahead
 use Rattle.xl_core.proofs.takes.Kinds as takes-of
 use Rattle.xl_core.proofs.takes.Reads as takes
 use Rattle.xl.proofs.step.Kinds as xl-step-of
@@ -255,10 +255,10 @@ pub record Total : Type 2 where
   pub take-line : Anything 2 take-line-of.ps take-line.Pre
   pub feed : Anything 2 feed-of.ps feed.Pre
   pub close : Anything 1 close-of.ps close.Pre
-  pub unlinked : Anything 0 unlinked-of.ps unlinked.Pre
-  pub stays : Anything 0 stays-of.ps stays.Pre
-  pub goes : Anything 0 goes-of.ps goes.Pre
-  pub after : Anything 0 after-of.ps after.Pre
+  pub ready : Anything 0 ready-of.ps ready.Pre
+  pub stay : Anything 0 stay-of.ps stay.Pre
+  pub to : Anything 0 to-of.ps to.Pre
+  pub ahead : Anything 0 ahead-of.ps ahead.Pre
   pub takes : Anything 0 takes-of.ps takes.Pre
   pub xl-step : Anything 0 xl-step-of.ps xl-step.Pre
   pub xl-receive : Anything 1 xl-receive-of.ps xl-receive.Pre
@@ -371,10 +371,10 @@ total = record {
   take-line = λ κs a. tt;
   feed = λ κs a. tt;
   close = λ κs a. tt;
-  unlinked = λ κs a. tt;
-  stays = λ κs a. tt;
-  goes = λ κs a. tt;
-  after = λ κs a. tt;
+  ready = λ κs a. tt;
+  stay = λ κs a. tt;
+  to = λ κs a. tt;
+  ahead = λ κs a. tt;
   takes = λ κs a. tt;
   xl-step = λ κs a. tt;
   xl-receive = λ κs a. tt;

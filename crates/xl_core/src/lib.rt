@@ -6,9 +6,10 @@ ghost use Rattle.xl_parts.specs.declared.Action.{Action};
 ghost use Rattle.xl_parts.specs.declared.Message.{Message};
 ghost use Rattle.xl_parts.specs.declared.Phase.{Phase};
 ghost use Rattle.xl_parts.specs.declared.Primitive.{Primitive};
-ghost use Rattle.xl_parts.specs.Parts.{hears, sees, breaks, closes, blocks, forgets, remembering, hold, entered, stay, to, done};
-ghost use Rattle.xl_rows.specs.Table.{counted, unexpected, broken, rejectFor, waitFor, isBlocked, timedOut, forwarded, seen, returns, backoff, crossed, remembered, sentIn5, closing, inState, onBreak};
+ghost use Rattle.xl_parts.specs.Parts as parts;
+ghost use Rattle.xl_parts.specs.Parts.{done};
 ghost use Rattle.xl_rows.specs.Table as table;
+ghost use Rattle.xl_rows.specs.Table.{rejectFor, waitFor, isBlocked, timedOut, wasSeen, comesBack, in6, sentIn5, sendCloseIn7, inState, onBreak};
 use open_frame::OpenFrame;
 use xl_parts::Action;
 use xl_parts::Arbitration;
@@ -28,26 +29,26 @@ use xl_parts::Seen;
 use xl_parts::State;
 use xl_parts::Stepped;
 use xl_parts::Wait;
-use xl_parts::after;
-use xl_parts::goes;
-use xl_parts::stays;
+use xl_parts::ahead;
+use xl_parts::stay;
+use xl_parts::to;
 
-fn more(n: u32) -> u32
-    ensures { λ r. ⌜ r ≡ counted n ⌝ }
+fn counted(n: u32) -> u32
+    ensures { λ r. ⌜ r ≡ table.counted n ⌝ }
 {
     if n < 4294967295 { n + 1 } else { n }
 }
 
-fn surprised(s: State) -> Stepped
-    ensures { λ r. ⌜ r ≡ done (unexpected s) ⌝ }
+fn unexpected(s: State) -> Stepped
+    ensures { λ r. ⌜ r ≡ done (table.unexpected s) ⌝ }
 {
     let mut t = s;
-    t.count = more(s.count);
-    stays(t)
+    t.count = counted(s.count);
+    stay(t)
 }
 
 fn holding(s: State, f: OpenFrame) -> State
-    ensures { λ r. ⌜ r ≡ hold f s ⌝ }
+    ensures { λ r. ⌜ r ≡ parts.holding f s ⌝ }
 {
     let m = s.memory;
     let phase = s.phase;
@@ -68,7 +69,7 @@ fn holding(s: State, f: OpenFrame) -> State
 }
 
 fn hearing(s: State, f: OpenFrame) -> State
-    ensures { λ r. ⌜ r ≡ remembering (hears f) s ⌝ }
+    ensures { λ r. ⌜ r ≡ parts.hearing f s ⌝ }
 {
     let m = s.memory;
     let phase = s.phase;
@@ -89,7 +90,7 @@ fn hearing(s: State, f: OpenFrame) -> State
 }
 
 fn seeing(s: State, w: Wait) -> State
-    ensures { λ r. ⌜ r ≡ remembering (sees w) s ⌝ }
+    ensures { λ r. ⌜ r ≡ parts.seeing w s ⌝ }
 {
     let m = s.memory;
     let phase = s.phase;
@@ -110,7 +111,7 @@ fn seeing(s: State, w: Wait) -> State
 }
 
 fn breaking(s: State) -> State
-    ensures { λ r. ⌜ r ≡ remembering breaks s ⌝ }
+    ensures { λ r. ⌜ r ≡ parts.breaking s ⌝ }
 {
     let mut m = s.memory;
     m.broke = true;
@@ -119,8 +120,8 @@ fn breaking(s: State) -> State
     t
 }
 
-fn closed(s: State) -> State
-    ensures { λ r. ⌜ r ≡ remembering closes s ⌝ }
+fn closing(s: State) -> State
+    ensures { λ r. ⌜ r ≡ parts.closing s ⌝ }
 {
     let mut m = s.memory;
     m.close = true;
@@ -130,7 +131,7 @@ fn closed(s: State) -> State
 }
 
 fn blocking(s: State, b: bool) -> State
-    ensures { λ r. ⌜ r ≡ remembering (blocks b) s ⌝ }
+    ensures { λ r. ⌜ r ≡ parts.blocking b s ⌝ }
 {
     let mut m = s.memory;
     m.blocked = b;
@@ -141,7 +142,7 @@ fn blocking(s: State, b: bool) -> State
 
 // XL6, whose entry clears nothing, with BREAK and OPEN forgotten.
 fn in_6(s: State) -> State
-    ensures { λ r. ⌜ r ≡ remembering forgets (entered Phase.Xl6 s) ⌝ }
+    ensures { λ r. ⌜ r ≡ in6 s ⌝ }
 {
     let m = s.memory;
     let held = m.held;
@@ -193,35 +194,35 @@ fn is_blocked(a: Arbitration) -> bool
 
 // What a row transmits, and the state that it goes to.
 fn transmits(s: State, a: Primitive, p: Phase) -> Stepped
-    ensures { λ r. ⌜ r ≡ done (to p (Action.Transmit a ∷ []) s) ⌝ }
+    ensures { λ r. ⌜ r ≡ done (parts.to p (Action.Transmit a ∷ []) s) ⌝ }
 {
-    after(Action::Transmit(a), goes(s, p))
+    ahead(Action::Transmit(a), to(s, p))
 }
 
 // The same, and the state stays.
 fn transmits_here(s: State, a: Primitive) -> Stepped
-    ensures { λ r. ⌜ r ≡ done (stay (Action.Transmit a ∷ []) s) ⌝ }
+    ensures { λ r. ⌜ r ≡ done (parts.stay (Action.Transmit a ∷ []) s) ⌝ }
 {
-    after(Action::Transmit(a), stays(s))
+    ahead(Action::Transmit(a), stay(s))
 }
 
 // What a row sends to the router, and the state that it goes to.
 fn sends(s: State, m: Message, p: Phase) -> Stepped
-    ensures { λ r. ⌜ r ≡ done (to p (Action.Send m ∷ []) s) ⌝ }
+    ensures { λ r. ⌜ r ≡ done (parts.to p (Action.Send m ∷ []) s) ⌝ }
 {
-    after(Action::Send(m), goes(s, p))
+    ahead(Action::Send(m), to(s, p))
 }
 
 // The same, and the state stays.
 fn sends_here(s: State, m: Message) -> Stepped
-    ensures { λ r. ⌜ r ≡ done (stay (Action.Send m ∷ []) s) ⌝ }
+    ensures { λ r. ⌜ r ≡ done (parts.stay (Action.Send m ∷ []) s) ⌝ }
 {
-    after(Action::Send(m), stays(s))
+    ahead(Action::Send(m), stay(s))
 }
 
 // The frame is held and transmitted as OPEN.
 fn opens(s: State, f: OpenFrame) -> Stepped
-    ensures { λ r. ⌜ r ≡ done (to Phase.Xl5 (Action.Transmit Primitive.Open ∷ []) (hold f s)) ⌝ }
+    ensures { λ r. ⌜ r ≡ done (parts.to Phase.Xl5 (Action.Transmit Primitive.Open ∷ []) (parts.holding f s)) ⌝ }
 {
     transmits(holding(s, f), Primitive::Open, Phase::Xl5)
 }
@@ -230,28 +231,28 @@ fn timed_out(s: State) -> Stepped
     ensures { λ r. ⌜ r ≡ done (timedOut s) ⌝ }
 {
     if s.memory.blocked {
-        return after(Action::RequestPath(true), stays(s));
+        return ahead(Action::RequestPath(true), stay(s));
     }
-    stays(s)
+    stay(s)
 }
 
-fn breaks_off(s: State) -> Stepped
-    ensures { λ r. ⌜ r ≡ done (broken s) ⌝ }
+fn broken(s: State) -> Stepped
+    ensures { λ r. ⌜ r ≡ done (table.broken s) ⌝ }
 {
-    after(Action::Break(BreakAction::Send), goes(s, Phase::Xl9))
+    ahead(Action::Break(BreakAction::Send), to(s, Phase::Xl9))
 }
 
-fn forwards(s: State) -> Stepped
-    ensures { λ r. ⌜ r ≡ done (forwarded s) ⌝ }
+fn forwarded(s: State) -> Stepped
+    ensures { λ r. ⌜ r ≡ done (table.forwarded s) ⌝ }
 {
     if s.memory.broke {
-        return breaks_off(s);
+        return broken(s);
     }
-    goes(s, Phase::Xl3)
+    to(s, Phase::Xl3)
 }
 
 fn was_seen(a: Seen) -> bool
-    ensures { λ r. ⌜ r ≡ seen a ⌝ }
+    ensures { λ r. ⌜ r ≡ wasSeen a ⌝ }
 {
     match a {
         Seen::Never => false,
@@ -261,13 +262,13 @@ fn was_seen(a: Seen) -> bool
 
 // Whether g comes back on the path of f.
 fn comes_back(g: OpenFrame, f: OpenFrame) -> bool
-    ensures { λ r. ⌜ r ≡ returns g f ⌝ }
+    ensures { λ r. ⌜ r ≡ comesBack g f ⌝ }
 {
     (g.head.destination == f.head.source) & (g.head.rate == f.head.rate)
 }
 
-fn backs_off(s: State, f: OpenFrame, g: OpenFrame) -> Stepped
-    ensures { λ r. ⌜ r ≡ done (backoff f g s) ⌝ }
+fn backoff(s: State, f: OpenFrame, g: OpenFrame) -> Stepped
+    ensures { λ r. ⌜ r ≡ done (table.backoff f g s) ⌝ }
 {
     let t = holding(s, g);
     if comes_back(g, f) {
@@ -277,58 +278,58 @@ fn backs_off(s: State, f: OpenFrame, g: OpenFrame) -> Stepped
 }
 
 // An OPEN received in XL6.
-fn crosses(s: State, g: OpenFrame) -> Stepped
-    ensures { λ r. ⌜ r ≡ done (crossed (s .memory .held) g s) ⌝ }
+fn crossed(s: State, g: OpenFrame) -> Stepped
+    ensures { λ r. ⌜ r ≡ done (table.crossed (s .memory .held) g s) ⌝ }
 {
     let m = s.memory;
     let held = m.held;
     let aip = m.aip;
     let Held::Frame(f) = held else {
-        return stays(s);
+        return stay(s);
     };
     if !was_seen(aip) & !open_frame::higher(g, f) {
-        return stays(s);
+        return stay(s);
     }
-    backs_off(s, f, g)
+    backoff(s, f, g)
 }
 
 // What XL5 remembered, taken in XL6.
-fn remembers(s: State, m: Memory) -> Stepped
-    ensures { λ r. ⌜ r ≡ done (remembered m s) ⌝ }
+fn remembered(s: State, m: Memory) -> Stepped
+    ensures { λ r. ⌜ r ≡ done (table.remembered m s) ⌝ }
 {
     if m.broke {
-        return breaks_off(s);
+        return broken(s);
     }
     let heard = m.heard;
     let Held::Frame(g) = heard else {
-        return stays(s);
+        return stay(s);
     };
-    crosses(s, g)
+    crossed(s, g)
 }
 
 fn sent_in_5(s: State) -> Stepped
     ensures { λ r. ⌜ r ≡ done (sentIn5 s) ⌝ }
 {
     let m = s.memory;
-    after(
+    ahead(
         Action::Send(Message::ArbStatus(Wait::Device)),
-        remembers(in_6(s), m),
+        remembered(in_6(s), m),
     )
 }
 
 // CLOSE received in XL7.
 fn close_in_7(s: State) -> Stepped
-    ensures { λ r. ⌜ r ≡ done (cond (not (s .memory .close)) (stay (Action.Send Message.SendClose ∷ []) (remembering closes s)) (unexpected s)) ⌝ }
+    ensures { λ r. ⌜ r ≡ done (cond (not (s .memory .close)) (parts.stay (Action.Send Message.SendClose ∷ []) (parts.closing s)) (table.unexpected s)) ⌝ }
 {
     if s.memory.close {
-        return surprised(s);
+        return unexpected(s);
     }
-    sends_here(closed(s), Message::SendClose)
+    sends_here(closing(s), Message::SendClose)
 }
 
 // SendClose in XL7.
-fn closes_in_7(s: State) -> Stepped
-    ensures { λ r. ⌜ r ≡ done (closing s) ⌝ }
+fn send_close_in_7(s: State) -> Stepped
+    ensures { λ r. ⌜ r ≡ done (sendCloseIn7 s) ⌝ }
 {
     if s.memory.close {
         return transmits(s, Primitive::Close, Phase::Xl0);
@@ -338,7 +339,7 @@ fn closes_in_7(s: State) -> Stepped
 
 // Arbitrating in XL1.
 fn arbitrates(s: State, a: Arbitration) -> Stepped
-    ensures { λ r. ⌜ r ≡ done (stay (Action.Transmit (Primitive.Aip (waitFor a)) ∷ []) (remembering (blocks (isBlocked a)) s)) ⌝ }
+    ensures { λ r. ⌜ r ≡ done (parts.stay (Action.Transmit (Primitive.Aip (waitFor a)) ∷ []) (parts.blocking (isBlocked a) s)) ⌝ }
 {
     transmits_here(blocking(s, is_blocked(a)), Primitive::Aip(wait_for(a)))
 }
@@ -350,14 +351,14 @@ fn at_0(s: State, e: Event, f: OpenFrame) -> Stepped
 {
     match e {
         Event::Line(p) => match p {
-            Primitive::Open => return goes(holding(s, f), Phase::Xl1),
-            _ => return surprised(s),
+            Primitive::Open => return to(holding(s, f), Phase::Xl1),
+            _ => return unexpected(s),
         },
         Event::Router(m) => match m {
             Message::SendOpen => return opens(s, f),
-            _ => return surprised(s),
+            _ => return unexpected(s),
         },
-        _ => return surprised(s),
+        _ => return unexpected(s),
     }
 }
 
@@ -367,7 +368,7 @@ fn at_1(s: State, e: Event, f: OpenFrame) -> Stepped
     match e {
         Event::Manager(c) => match c {
             Confirmation::ArbWon => return sends(s, Message::SendOpen, Phase::Xl2),
-            Confirmation::ArbLost => return goes(s, Phase::Xl0),
+            Confirmation::ArbLost => return to(s, Phase::Xl0),
             Confirmation::ArbReject(d) => {
                 return transmits(s, Primitive::OpenReject(reject_for(d)), Phase::Xl4);
             }
@@ -375,9 +376,9 @@ fn at_1(s: State, e: Event, f: OpenFrame) -> Stepped
         },
         Event::Own(n) => match n {
             Notice::PathTimer => return timed_out(s),
-            _ => return surprised(s),
+            _ => return unexpected(s),
         },
-        _ => return surprised(s),
+        _ => return unexpected(s),
     }
 }
 
@@ -386,10 +387,10 @@ fn at_2(s: State, e: Event, f: OpenFrame) -> Stepped
 {
     match e {
         Event::Own(n) => match n {
-            Notice::Forwarded => return forwards(s),
-            _ => return surprised(s),
+            Notice::Forwarded => return forwarded(s),
+            _ => return unexpected(s),
         },
-        _ => return surprised(s),
+        _ => return unexpected(s),
     }
 }
 
@@ -401,11 +402,11 @@ fn at_3(s: State, e: Event, f: OpenFrame) -> Stepped
             Message::ArbStatus(w) => return transmits_here(seeing(s, w), Primitive::Aip(w)),
             Message::OpenAccept => return transmits(s, Primitive::OpenAccept, Phase::Xl7),
             Message::OpenReject(k) => return transmits(s, Primitive::OpenReject(k), Phase::Xl0),
-            Message::BackoffRetry => return goes(s, Phase::Xl1),
+            Message::BackoffRetry => return to(s, Phase::Xl1),
             Message::BackoffReversePath => return opens(s, f),
-            _ => return surprised(s),
+            _ => return unexpected(s),
         },
-        _ => return surprised(s),
+        _ => return unexpected(s),
     }
 }
 
@@ -415,10 +416,10 @@ fn at_4_and_9(s: State, e: Event, f: OpenFrame) -> Stepped
 {
     match e {
         Event::Own(n) => match n {
-            Notice::Sent => return goes(s, Phase::Xl0),
-            _ => return surprised(s),
+            Notice::Sent => return to(s, Phase::Xl0),
+            _ => return unexpected(s),
         },
-        _ => return surprised(s),
+        _ => return unexpected(s),
     }
 }
 
@@ -427,14 +428,14 @@ fn at_5(s: State, e: Event, f: OpenFrame) -> Stepped
 {
     match e {
         Event::Line(p) => match p {
-            Primitive::Open => return stays(hearing(s, f)),
-            _ => return surprised(s),
+            Primitive::Open => return stay(hearing(s, f)),
+            _ => return unexpected(s),
         },
         Event::Own(n) => match n {
             Notice::Sent => return sent_in_5(s),
-            _ => return surprised(s),
+            _ => return unexpected(s),
         },
-        _ => return surprised(s),
+        _ => return unexpected(s),
     }
 }
 
@@ -446,10 +447,10 @@ fn at_6(s: State, e: Event, f: OpenFrame) -> Stepped
             Primitive::OpenAccept => return sends(s, Message::OpenAccept, Phase::Xl7),
             Primitive::OpenReject(k) => return sends(s, Message::OpenReject(k), Phase::Xl0),
             Primitive::Aip(w) => return sends_here(seeing(s, w), Message::ArbStatus(w)),
-            Primitive::Open => return crosses(s, f),
-            Primitive::Close => return surprised(s),
+            Primitive::Open => return crossed(s, f),
+            Primitive::Close => return unexpected(s),
         },
-        _ => return surprised(s),
+        _ => return unexpected(s),
     }
 }
 
@@ -459,13 +460,13 @@ fn at_7(s: State, e: Event, f: OpenFrame) -> Stepped
     match e {
         Event::Line(p) => match p {
             Primitive::Close => return close_in_7(s),
-            _ => return surprised(s),
+            _ => return unexpected(s),
         },
         Event::Router(m) => match m {
-            Message::SendClose => return closes_in_7(s),
-            _ => return surprised(s),
+            Message::SendClose => return send_close_in_7(s),
+            _ => return unexpected(s),
         },
-        _ => return surprised(s),
+        _ => return unexpected(s),
     }
 }
 
@@ -475,9 +476,9 @@ fn at_8(s: State, e: Event, f: OpenFrame) -> Stepped
     match e {
         Event::Line(p) => match p {
             Primitive::Close => return sends(s, Message::SendClose, Phase::Xl0),
-            _ => return surprised(s),
+            _ => return unexpected(s),
         },
-        _ => return surprised(s),
+        _ => return unexpected(s),
     }
 }
 
@@ -496,7 +497,7 @@ fn by_phase(s: State, e: Event, f: OpenFrame) -> Stepped
         Phase::Xl6 => at_6(s, e, f),
         Phase::Xl7 => at_7(s, e, f),
         Phase::Xl8 => at_8(s, e, f),
-        Phase::Xl10 => surprised(s),
+        Phase::Xl10 => unexpected(s),
     }
 }
 
@@ -506,23 +507,23 @@ fn on_break(s: State, b: BreakEvent) -> Stepped
     let phase = s.phase;
     match phase {
         Phase::Xl1 => match b {
-            BreakEvent::Received => return goes(s, Phase::Xl9),
-            _ => return surprised(s),
+            BreakEvent::Received => return to(s, Phase::Xl9),
+            _ => return unexpected(s),
         },
         Phase::Xl2 | Phase::Xl5 => match b {
-            BreakEvent::Received => return stays(breaking(s)),
-            _ => return surprised(s),
+            BreakEvent::Received => return stay(breaking(s)),
+            _ => return unexpected(s),
         },
         Phase::Xl3 | Phase::Xl6 | Phase::Xl7 | Phase::Xl8 => match b {
-            BreakEvent::Received => return breaks_off(s),
-            BreakEvent::Routed => return goes(s, Phase::Xl10),
-            BreakEvent::Timeout => return surprised(s),
+            BreakEvent::Received => return broken(s),
+            BreakEvent::Routed => return to(s, Phase::Xl10),
+            BreakEvent::Timeout => return unexpected(s),
         },
         Phase::Xl10 => match b {
-            BreakEvent::Routed => return surprised(s),
-            _ => return goes(s, Phase::Xl0),
+            BreakEvent::Routed => return unexpected(s),
+            _ => return to(s, Phase::Xl0),
         },
-        _ => return surprised(s),
+        _ => return unexpected(s),
     }
 }
 
@@ -532,7 +533,7 @@ pub fn takes(s: State, e: Event, f: OpenFrame) -> Stepped
 {
     match e {
         Event::Break(b) => return on_break(s, b),
-        Event::Disable => return goes(s, Phase::Xl0),
+        Event::Disable => return to(s, Phase::Xl0),
         _ => return by_phase(s, e, f),
     }
 }

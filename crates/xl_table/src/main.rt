@@ -669,7 +669,7 @@ fn print_refusals(p: u8, there: u8) {
 }
 
 fn counting(count: u32) -> State {
-    let mut s = xl_parts::unlinked();
+    let mut s = xl_parts::ready();
     s.count = count;
     s
 }

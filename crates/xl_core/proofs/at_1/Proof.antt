@@ -28,11 +28,11 @@ returns c = rw (c .sends .ensures, c .before .before .before .before .e .given .
 enum-told-2 : tie.Need-enum-told-2
 enum-told-2 c = search needs
 
-goes-requires : tie.Need-goes-requires
-goes-requires c κs = search needs
+to-requires : tie.Need-to-requires
+to-requires c κs = search needs
 
 returns-2 : tie.Need-returns-2
-returns-2 c = rw (c .goes .ensures, c .before .before .before .before .e .given .1, c .before .enum-told2 .given .1)
+returns-2 c = rw (c .to .ensures, c .before .before .before .before .e .given .1, c .before .enum-told2 .given .1)
 
 enum-known-c : tie.Need-enum-known-c
 enum-known-c c = search needs
@@ -67,17 +67,17 @@ timed-out-requires c κs = search needs
 returns-5 : tie.Need-returns-5
 returns-5 c = rw (c .timed-out .ensures, c .before .before .before .before .e2 .given .1, c .before .enum-told3 .given .1)
 
-surprised-requires : tie.Need-surprised-requires
-surprised-requires c κs = search needs
+unexpected-requires : tie.Need-unexpected-requires
+unexpected-requires c κs = search needs
 
 returns-6 : tie.Need-returns-6
-returns-6 c = rw (c .before .before .before .e2 .given .1) (c .surprised .ensures ∙ rest notice.enum (λ (x : Notice). done (inState Phase.Xl1 (c .before .before .before .before .before .args .f) (Event.Own x) (c .before .before .before .before .before .args .s))) (done (unexpected (c .before .before .before .before .before .args .s))) (0 ∷ []) (search depth 40) (c .before .before .before .e2 .given .0 .0) (c .before .match3 .keys2))
+returns-6 c = rw (c .before .before .before .e2 .given .1) (c .unexpected .ensures ∙ rest notice.enum (λ (x : Notice). done (inState Phase.Xl1 (c .before .before .before .before .before .args .f) (Event.Own x) (c .before .before .before .before .before .args .s))) (done (unexpected (c .before .before .before .before .before .args .s))) (0 ∷ []) (search depth 40) (c .before .before .before .e2 .given .0 .0) (c .before .match3 .keys2))
 
-surprised-requires-2 : tie.Need-surprised-requires-2
-surprised-requires-2 c κs = search needs
+unexpected-requires-2 : tie.Need-unexpected-requires-2
+unexpected-requires-2 c κs = search needs
 
 returns-7 : tie.Need-returns-7
-returns-7 c = c .surprised2 .ensures ∙ rest event.enum (λ (x : Event). done (inState Phase.Xl1 (c .before .before .args .f) x (c .before .before .args .s))) (done (unexpected (c .before .before .args .s))) (2 ∷ 3 ∷ []) (search depth 40) (c .before .before .args .e) (c .before .match .keys3)
+returns-7 c = c .unexpected2 .ensures ∙ rest event.enum (λ (x : Event). done (inState Phase.Xl1 (c .before .before .args .f) x (c .before .before .args .s))) (done (unexpected (c .before .before .args .s))) (2 ∷ 3 ∷ []) (search depth 40) (c .before .before .args .e) (c .before .match .keys3)
 
 pub at-1-spec : {M : Type 1} → statement M
 at-1-spec =
@@ -88,7 +88,7 @@ at-1-spec =
     sends-requires
     returns
     enum-told-2
-    goes-requires
+    to-requires
     returns-2
     enum-known-c
     reject-for-requires
@@ -101,7 +101,7 @@ at-1-spec =
     enum-told-3
     timed-out-requires
     returns-5
-    surprised-requires
+    unexpected-requires
     returns-6
-    surprised-requires-2
+    unexpected-requires-2
     returns-7)

@@ -49,11 +49,11 @@ returns-3 c = rw (c .transmits2 .ensures, c .before .before .before .before .bef
 enum-told-2 : tie.Need-enum-told-2
 enum-told-2 c = search needs
 
-goes-requires : tie.Need-goes-requires
-goes-requires c κs = search needs
+to-requires : tie.Need-to-requires
+to-requires c κs = search needs
 
 returns-4 : tie.Need-returns-4
-returns-4 c = rw (c .goes .ensures, c .before .before .before .before .e .given .1, c .before .enum-told2 .given .1)
+returns-4 c = rw (c .to .ensures, c .before .before .before .before .e .given .1, c .before .enum-told2 .given .1)
 
 enum-told-3 : tie.Need-enum-told-3
 enum-told-3 c = search needs
@@ -64,17 +64,17 @@ opens-requires c κs = search needs
 returns-5 : tie.Need-returns-5
 returns-5 c = rw (c .opens .ensures, c .before .before .before .before .e .given .1, c .before .enum-told3 .given .1)
 
-surprised-requires : tie.Need-surprised-requires
-surprised-requires c κs = search needs
+unexpected-requires : tie.Need-unexpected-requires
+unexpected-requires c κs = search needs
 
 returns-6 : tie.Need-returns-6
-returns-6 c = rw (c .before .before .before .e .given .1) (c .surprised .ensures ∙ rest message.enum (λ (x : Message). done (inState Phase.Xl3 (c .before .before .before .before .before .args .f) (Event.Router x) (c .before .before .before .before .before .args .s))) (done (unexpected (c .before .before .before .before .before .args .s))) (2 ∷ 3 ∷ 4 ∷ 5 ∷ 6 ∷ []) (search depth 40) (c .before .before .before .e .given .0 .0) (c .before .match2 .keys6))
+returns-6 c = rw (c .before .before .before .e .given .1) (c .unexpected .ensures ∙ rest message.enum (λ (x : Message). done (inState Phase.Xl3 (c .before .before .before .before .before .args .f) (Event.Router x) (c .before .before .before .before .before .args .s))) (done (unexpected (c .before .before .before .before .before .args .s))) (2 ∷ 3 ∷ 4 ∷ 5 ∷ 6 ∷ []) (search depth 40) (c .before .before .before .e .given .0 .0) (c .before .match2 .keys6))
 
-surprised-requires-2 : tie.Need-surprised-requires-2
-surprised-requires-2 c κs = search needs
+unexpected-requires-2 : tie.Need-unexpected-requires-2
+unexpected-requires-2 c κs = search needs
 
 returns-7 : tie.Need-returns-7
-returns-7 c = c .surprised2 .ensures ∙ rest event.enum (λ (x : Event). done (inState Phase.Xl3 (c .before .before .args .f) x (c .before .before .args .s))) (done (unexpected (c .before .before .args .s))) (1 ∷ []) (search depth 40) (c .before .before .args .e) (c .before .match .keys2)
+returns-7 c = c .unexpected2 .ensures ∙ rest event.enum (λ (x : Event). done (inState Phase.Xl3 (c .before .before .args .f) x (c .before .before .args .s))) (done (unexpected (c .before .before .args .s))) (1 ∷ []) (search depth 40) (c .before .before .args .e) (c .before .match .keys2)
 
 pub at-3-spec : {M : Type 1} → statement M
 at-3-spec =
@@ -92,12 +92,12 @@ at-3-spec =
     transmits-requires-2
     returns-3
     enum-told-2
-    goes-requires
+    to-requires
     returns-4
     enum-told-3
     opens-requires
     returns-5
-    surprised-requires
+    unexpected-requires
     returns-6
-    surprised-requires-2
+    unexpected-requires-2
     returns-7)

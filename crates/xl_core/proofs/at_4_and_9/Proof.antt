@@ -19,23 +19,23 @@ enum-known-e c = search needs
 enum-told : tie.Need-enum-told
 enum-told c = search needs
 
-goes-requires : tie.Need-goes-requires
-goes-requires c κs = search needs
+to-requires : tie.Need-to-requires
+to-requires c κs = search needs
 
 returns : tie.Need-returns
-returns c = rw (c .goes .ensures, c .before .before .before .before .e .given .1, c .before .enum-told .given .1)
+returns c = rw (c .to .ensures, c .before .before .before .before .e .given .1, c .before .enum-told .given .1)
 
-surprised-requires : tie.Need-surprised-requires
-surprised-requires c κs = search needs
+unexpected-requires : tie.Need-unexpected-requires
+unexpected-requires c κs = search needs
 
 returns-2 : tie.Need-returns-2
-returns-2 c = rw (c .before .before .before .e .given .1) (c .surprised .ensures ∙ rest notice.enum (λ (x : Notice). done (inState Phase.Xl4 (c .before .before .before .before .before .args .f) (Event.Own x) (c .before .before .before .before .before .args .s))) (done (unexpected (c .before .before .before .before .before .args .s))) (1 ∷ []) (search depth 40) (c .before .before .before .e .given .0 .0) (c .before .match2 .keys2))
+returns-2 c = rw (c .before .before .before .e .given .1) (c .unexpected .ensures ∙ rest notice.enum (λ (x : Notice). done (inState Phase.Xl4 (c .before .before .before .before .before .args .f) (Event.Own x) (c .before .before .before .before .before .args .s))) (done (unexpected (c .before .before .before .before .before .args .s))) (1 ∷ []) (search depth 40) (c .before .before .before .e .given .0 .0) (c .before .match2 .keys2))
 
-surprised-requires-2 : tie.Need-surprised-requires-2
-surprised-requires-2 c κs = search needs
+unexpected-requires-2 : tie.Need-unexpected-requires-2
+unexpected-requires-2 c κs = search needs
 
 returns-3 : tie.Need-returns-3
-returns-3 c = c .surprised2 .ensures ∙ rest event.enum (λ (x : Event). done (inState Phase.Xl4 (c .before .before .args .f) x (c .before .before .args .s))) (done (unexpected (c .before .before .args .s))) (3 ∷ []) (search depth 40) (c .before .before .args .e) (c .before .match .keys2)
+returns-3 c = c .unexpected2 .ensures ∙ rest event.enum (λ (x : Event). done (inState Phase.Xl4 (c .before .before .args .f) x (c .before .before .args .s))) (done (unexpected (c .before .before .args .s))) (3 ∷ []) (search depth 40) (c .before .before .args .e) (c .before .match .keys2)
 
 pub at-4-and-9-spec : {M : Type 1} → statement M
 at-4-and-9-spec =
@@ -43,9 +43,9 @@ at-4-and-9-spec =
     (tie.spec
     enum-known-e
     enum-told
-    goes-requires
+    to-requires
     returns
-    surprised-requires
+    unexpected-requires
     returns-2
-    surprised-requires-2
+    unexpected-requires-2
     returns-3)

@@ -47,26 +47,26 @@ returns-3 c = rw (c .sends-here .ensures, c .before .seeing .ensures, c .before 
 enum-told-2 : tie.Need-enum-told-2
 enum-told-2 c = search needs
 
-crosses-requires : tie.Need-crosses-requires
-crosses-requires c κs = search needs
+crossed-requires : tie.Need-crossed-requires
+crossed-requires c κs = search needs
 
 returns-4 : tie.Need-returns-4
-returns-4 c = rw (c .crosses .ensures, c .before .before .before .before .e .given .1, c .before .enum-told2 .given .1)
+returns-4 c = rw (c .crossed .ensures, c .before .before .before .before .e .given .1, c .before .enum-told2 .given .1)
 
 enum-told-3 : tie.Need-enum-told-3
 enum-told-3 c = search needs
 
-surprised-requires : tie.Need-surprised-requires
-surprised-requires c κs = search needs
+unexpected-requires : tie.Need-unexpected-requires
+unexpected-requires c κs = search needs
 
 returns-5 : tie.Need-returns-5
-returns-5 c = rw (c .surprised .ensures, c .before .before .before .before .e .given .1, c .before .enum-told3 .given .1)
+returns-5 c = rw (c .unexpected .ensures, c .before .before .before .before .e .given .1, c .before .enum-told3 .given .1)
 
-surprised-requires-2 : tie.Need-surprised-requires-2
-surprised-requires-2 c κs = search needs
+unexpected-requires-2 : tie.Need-unexpected-requires-2
+unexpected-requires-2 c κs = search needs
 
 returns-6 : tie.Need-returns-6
-returns-6 c = c .surprised2 .ensures ∙ rest event.enum (λ (x : Event). done (inState Phase.Xl6 (c .before .before .args .f) x (c .before .before .args .s))) (done (unexpected (c .before .before .args .s))) (0 ∷ []) (search depth 40) (c .before .before .args .e) (c .before .match .keys2)
+returns-6 c = c .unexpected2 .ensures ∙ rest event.enum (λ (x : Event). done (inState Phase.Xl6 (c .before .before .args .f) x (c .before .before .args .s))) (done (unexpected (c .before .before .args .s))) (0 ∷ []) (search depth 40) (c .before .before .args .e) (c .before .match .keys2)
 
 pub at-6-spec : {M : Type 1} → statement M
 at-6-spec =
@@ -84,10 +84,10 @@ at-6-spec =
     sends-here-requires
     returns-3
     enum-told-2
-    crosses-requires
+    crossed-requires
     returns-4
     enum-told-3
-    surprised-requires
+    unexpected-requires
     returns-5
-    surprised-requires-2
+    unexpected-requires-2
     returns-6)

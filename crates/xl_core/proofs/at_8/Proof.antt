@@ -25,17 +25,17 @@ sends-requires c κs = search needs
 returns : tie.Need-returns
 returns c = rw (c .sends .ensures, c .before .before .before .before .e .given .1, c .before .enum-told .given .1)
 
-surprised-requires : tie.Need-surprised-requires
-surprised-requires c κs = search needs
+unexpected-requires : tie.Need-unexpected-requires
+unexpected-requires c κs = search needs
 
 returns-2 : tie.Need-returns-2
-returns-2 c = rw (c .before .before .before .e .given .1) (c .surprised .ensures ∙ rest primitive.enum (λ (x : Primitive). done (inState Phase.Xl8 (c .before .before .before .before .before .args .f) (Event.Line x) (c .before .before .before .before .before .args .s))) (done (unexpected (c .before .before .before .before .before .args .s))) (4 ∷ []) (search depth 40) (c .before .before .before .e .given .0 .0) (c .before .match2 .keys2))
+returns-2 c = rw (c .before .before .before .e .given .1) (c .unexpected .ensures ∙ rest primitive.enum (λ (x : Primitive). done (inState Phase.Xl8 (c .before .before .before .before .before .args .f) (Event.Line x) (c .before .before .before .before .before .args .s))) (done (unexpected (c .before .before .before .before .before .args .s))) (4 ∷ []) (search depth 40) (c .before .before .before .e .given .0 .0) (c .before .match2 .keys2))
 
-surprised-requires-2 : tie.Need-surprised-requires-2
-surprised-requires-2 c κs = search needs
+unexpected-requires-2 : tie.Need-unexpected-requires-2
+unexpected-requires-2 c κs = search needs
 
 returns-3 : tie.Need-returns-3
-returns-3 c = c .surprised2 .ensures ∙ rest event.enum (λ (x : Event). done (inState Phase.Xl8 (c .before .before .args .f) x (c .before .before .args .s))) (done (unexpected (c .before .before .args .s))) (0 ∷ []) (search depth 40) (c .before .before .args .e) (c .before .match .keys2)
+returns-3 c = c .unexpected2 .ensures ∙ rest event.enum (λ (x : Event). done (inState Phase.Xl8 (c .before .before .args .f) x (c .before .before .args .s))) (done (unexpected (c .before .before .args .s))) (0 ∷ []) (search depth 40) (c .before .before .args .e) (c .before .match .keys2)
 
 pub at-8-spec : {M : Type 1} → statement M
 at-8-spec =
@@ -45,7 +45,7 @@ at-8-spec =
     enum-told
     sends-requires
     returns
-    surprised-requires
+    unexpected-requires
     returns-2
-    surprised-requires-2
+    unexpected-requires-2
     returns-3)

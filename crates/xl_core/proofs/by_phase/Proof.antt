@@ -64,8 +64,8 @@ at-8-requires c κs = search needs
 enum-told-9 : tie.Need-enum-told-9
 enum-told-9 c = search needs
 
-surprised-requires : tie.Need-surprised-requires
-surprised-requires c κs = search needs
+unexpected-requires : tie.Need-unexpected-requires
+unexpected-requires c κs = search needs
 
 returns : tie.Need-returns
 returns c = rw (c .at-0 .ensures, c .before .enum-told .given .1)
@@ -95,7 +95,7 @@ returns-9 : tie.Need-returns-9
 returns-9 c = rw (c .at-8 .ensures, c .before .enum-told8 .given .1)
 
 returns-10 : tie.Need-returns-10
-returns-10 c = rw (c .surprised .ensures, c .before .enum-told9 .given .1)
+returns-10 c = rw (c .unexpected .ensures, c .before .enum-told9 .given .1)
 
 pub by-phase-spec : {M : Type 1} → statement M
 by-phase-spec =
@@ -119,7 +119,7 @@ by-phase-spec =
     enum-told-8
     at-8-requires
     enum-told-9
-    surprised-requires
+    unexpected-requires
     returns
     returns-2
     returns-3

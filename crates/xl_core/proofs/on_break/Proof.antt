@@ -28,17 +28,17 @@ enum-told c = search needs
 enum-told-2 : tie.Need-enum-told-2
 enum-told-2 c = search needs
 
-goes-requires : tie.Need-goes-requires
-goes-requires c κs = search needs
+to-requires : tie.Need-to-requires
+to-requires c κs = search needs
 
 returns : tie.Need-returns
-returns c = rw (c .goes .ensures, c .before .before .before .enum-told .given .1, c .before .enum-told2 .given .1)
+returns c = rw (c .to .ensures, c .before .before .before .enum-told .given .1, c .before .enum-told2 .given .1)
 
-surprised-requires : tie.Need-surprised-requires
-surprised-requires c κs = search needs
+unexpected-requires : tie.Need-unexpected-requires
+unexpected-requires c κs = search needs
 
 returns-2 : tie.Need-returns-2
-returns-2 c = c .surprised .ensures ∙ rest break-event.enum (λ (b : BreakEvent). done (onBreak Phase.Xl1 b (c .before .before .before .before .args .s))) (done (unexpected (c .before .before .before .before .args .s))) (0 ∷ []) (search depth 40) (c .before .before .before .before .args .b) (c .before .match2 .keys2) ∙ ap (λ (p : Phase). done (onBreak p (c .before .before .before .before .args .b) (c .before .before .before .before .args .s))) (sym (c .before .before .enum-told .given .1))
+returns-2 c = c .unexpected .ensures ∙ rest break-event.enum (λ (b : BreakEvent). done (onBreak Phase.Xl1 b (c .before .before .before .before .args .s))) (done (unexpected (c .before .before .before .before .args .s))) (0 ∷ []) (search depth 40) (c .before .before .before .before .args .b) (c .before .match2 .keys2) ∙ ap (λ (p : Phase). done (onBreak p (c .before .before .before .before .args .b) (c .before .before .before .before .args .s))) (sym (c .before .before .enum-told .given .1))
 
 enum-told-3 : tie.Need-enum-told-3
 enum-told-3 c = search needs
@@ -46,44 +46,44 @@ enum-told-3 c = search needs
 breaking-requires : tie.Need-breaking-requires
 breaking-requires c κs = search needs
 
-stays-requires : tie.Need-stays-requires
-stays-requires c κs = search needs
+stay-requires : tie.Need-stay-requires
+stay-requires c κs = search needs
 
 returns-3 : tie.Need-returns-3
-returns-3 c = rw (c .stays .ensures, c .before .breaking .ensures, c .before .before .enum-told3 .given .1) (alike (c .before .before .before .before .before .args .s) Phase.Xl2 (2 ∷ 5 ∷ []) (search depth 40) (c .before .before .before .before .match .keys2) BreakEvent.Received)
+returns-3 c = rw (c .stay .ensures, c .before .breaking .ensures, c .before .before .enum-told3 .given .1) (alike (c .before .before .before .before .before .args .s) Phase.Xl2 (2 ∷ 5 ∷ []) (search depth 40) (c .before .before .before .before .match .keys2) BreakEvent.Received)
 
-surprised-requires-2 : tie.Need-surprised-requires-2
-surprised-requires-2 c κs = search needs
+unexpected-requires-2 : tie.Need-unexpected-requires-2
+unexpected-requires-2 c κs = search needs
 
 returns-4 : tie.Need-returns-4
-returns-4 c = c .surprised2 .ensures ∙ rest break-event.enum (λ (b : BreakEvent). done (onBreak Phase.Xl2 b (c .before .before .before .args .s))) (done (unexpected (c .before .before .before .args .s))) (0 ∷ []) (search depth 40) (c .before .before .before .args .b) (c .before .match3 .keys2) ∙ alike (c .before .before .before .args .s) Phase.Xl2 (2 ∷ 5 ∷ []) (search depth 40) (c .before .before .match .keys2) (c .before .before .before .args .b)
+returns-4 c = c .unexpected2 .ensures ∙ rest break-event.enum (λ (b : BreakEvent). done (onBreak Phase.Xl2 b (c .before .before .before .args .s))) (done (unexpected (c .before .before .before .args .s))) (0 ∷ []) (search depth 40) (c .before .before .before .args .b) (c .before .match3 .keys2) ∙ alike (c .before .before .before .args .s) Phase.Xl2 (2 ∷ 5 ∷ []) (search depth 40) (c .before .before .match .keys2) (c .before .before .before .args .b)
 
 enum-told-4 : tie.Need-enum-told-4
 enum-told-4 c = search needs
 
-breaks-off-requires : tie.Need-breaks-off-requires
-breaks-off-requires c κs = search needs
+broken-requires : tie.Need-broken-requires
+broken-requires c κs = search needs
 
 returns-5 : tie.Need-returns-5
-returns-5 c = rw (c .breaks-off .ensures, c .before .enum-told4 .given .1) (alike (c .before .before .before .before .args .s) Phase.Xl3 (3 ∷ 6 ∷ 7 ∷ 8 ∷ []) (search depth 40) (c .before .before .before .match .keys3) BreakEvent.Received)
+returns-5 c = rw (c .broken .ensures, c .before .enum-told4 .given .1) (alike (c .before .before .before .before .args .s) Phase.Xl3 (3 ∷ 6 ∷ 7 ∷ 8 ∷ []) (search depth 40) (c .before .before .before .match .keys3) BreakEvent.Received)
 
 enum-told-5 : tie.Need-enum-told-5
 enum-told-5 c = search needs
 
-goes-requires-2 : tie.Need-goes-requires-2
-goes-requires-2 c κs = search needs
+to-requires-2 : tie.Need-to-requires-2
+to-requires-2 c κs = search needs
 
 returns-6 : tie.Need-returns-6
-returns-6 c = rw (c .goes2 .ensures, c .before .enum-told5 .given .1) (alike (c .before .before .before .before .args .s) Phase.Xl3 (3 ∷ 6 ∷ 7 ∷ 8 ∷ []) (search depth 40) (c .before .before .before .match .keys3) BreakEvent.Routed)
+returns-6 c = rw (c .to2 .ensures, c .before .enum-told5 .given .1) (alike (c .before .before .before .before .args .s) Phase.Xl3 (3 ∷ 6 ∷ 7 ∷ 8 ∷ []) (search depth 40) (c .before .before .before .match .keys3) BreakEvent.Routed)
 
 enum-told-6 : tie.Need-enum-told-6
 enum-told-6 c = search needs
 
-surprised-requires-3 : tie.Need-surprised-requires-3
-surprised-requires-3 c κs = search needs
+unexpected-requires-3 : tie.Need-unexpected-requires-3
+unexpected-requires-3 c κs = search needs
 
 returns-7 : tie.Need-returns-7
-returns-7 c = rw (c .surprised3 .ensures, c .before .enum-told6 .given .1) (alike (c .before .before .before .before .args .s) Phase.Xl3 (3 ∷ 6 ∷ 7 ∷ 8 ∷ []) (search depth 40) (c .before .before .before .match .keys3) BreakEvent.Timeout)
+returns-7 c = rw (c .unexpected3 .ensures, c .before .enum-told6 .given .1) (alike (c .before .before .before .before .args .s) Phase.Xl3 (3 ∷ 6 ∷ 7 ∷ 8 ∷ []) (search depth 40) (c .before .before .before .match .keys3) BreakEvent.Timeout)
 
 enum-told-7 : tie.Need-enum-told-7
 enum-told-7 c = search needs
@@ -91,23 +91,23 @@ enum-told-7 c = search needs
 enum-told-8 : tie.Need-enum-told-8
 enum-told-8 c = search needs
 
-surprised-requires-4 : tie.Need-surprised-requires-4
-surprised-requires-4 c κs = search needs
+unexpected-requires-4 : tie.Need-unexpected-requires-4
+unexpected-requires-4 c κs = search needs
 
 returns-8 : tie.Need-returns-8
-returns-8 c = rw (c .surprised4 .ensures, c .before .before .before .enum-told7 .given .1, c .before .enum-told8 .given .1)
+returns-8 c = rw (c .unexpected4 .ensures, c .before .before .before .enum-told7 .given .1, c .before .enum-told8 .given .1)
 
-goes-requires-3 : tie.Need-goes-requires-3
-goes-requires-3 c κs = search needs
+to-requires-3 : tie.Need-to-requires-3
+to-requires-3 c κs = search needs
 
 returns-9 : tie.Need-returns-9
-returns-9 c = c .goes3 .ensures ∙ rest break-event.enum (λ (b : BreakEvent). done (onBreak Phase.Xl10 b (c .before .before .before .before .args .s))) (done (to Phase.Xl0 [] (c .before .before .before .before .args .s))) (1 ∷ []) (search depth 40) (c .before .before .before .before .args .b) (c .before .match5 .keys2) ∙ ap (λ (p : Phase). done (onBreak p (c .before .before .before .before .args .b) (c .before .before .before .before .args .s))) (sym (c .before .before .enum-told7 .given .1))
+returns-9 c = c .to3 .ensures ∙ rest break-event.enum (λ (b : BreakEvent). done (onBreak Phase.Xl10 b (c .before .before .before .before .args .s))) (done (to Phase.Xl0 [] (c .before .before .before .before .args .s))) (1 ∷ []) (search depth 40) (c .before .before .before .before .args .b) (c .before .match5 .keys2) ∙ ap (λ (p : Phase). done (onBreak p (c .before .before .before .before .args .b) (c .before .before .before .before .args .s))) (sym (c .before .before .enum-told7 .given .1))
 
-surprised-requires-5 : tie.Need-surprised-requires-5
-surprised-requires-5 c κs = search needs
+unexpected-requires-5 : tie.Need-unexpected-requires-5
+unexpected-requires-5 c κs = search needs
 
 returns-10 : tie.Need-returns-10
-returns-10 c = c .surprised5 .ensures ∙ among phase.enum (λ (p : Phase). done (unexpected (c .before .before .args .s)) ≡ done (onBreak p (c .before .before .args .b) (c .before .before .args .s))) (0 ∷ 4 ∷ 9 ∷ []) (search depth 40) (c .before .before .args .s .phase) (c .before .match .keys5)
+returns-10 c = c .unexpected5 .ensures ∙ among phase.enum (λ (p : Phase). done (unexpected (c .before .before .args .s)) ≡ done (onBreak p (c .before .before .args .b) (c .before .before .args .s))) (0 ∷ 4 ∷ 9 ∷ []) (search depth 40) (c .before .before .args .s .phase) (c .before .match .keys5)
 
 pub on-break-spec : {M : Type 1} → statement M
 on-break-spec =
@@ -115,30 +115,30 @@ on-break-spec =
     (tie.spec
     enum-told
     enum-told-2
-    goes-requires
+    to-requires
     returns
-    surprised-requires
+    unexpected-requires
     returns-2
     enum-told-3
     breaking-requires
-    stays-requires
+    stay-requires
     returns-3
-    surprised-requires-2
+    unexpected-requires-2
     returns-4
     enum-told-4
-    breaks-off-requires
+    broken-requires
     returns-5
     enum-told-5
-    goes-requires-2
+    to-requires-2
     returns-6
     enum-told-6
-    surprised-requires-3
+    unexpected-requires-3
     returns-7
     enum-told-7
     enum-told-8
-    surprised-requires-4
+    unexpected-requires-4
     returns-8
-    goes-requires-3
+    to-requires-3
     returns-9
-    surprised-requires-5
+    unexpected-requires-5
     returns-10)

@@ -7,14 +7,14 @@ use Rattle.xl_parts.proofs.Effects.{pushes}
 use Rattle.xl_core.proofs.sends.Statement.{statement}
 use Rattle.xl_core.proofs.sends.Tie as tie
 
-goes-requires : tie.Need-goes-requires
-goes-requires c κs = search needs
+to-requires : tie.Need-to-requires
+to-requires c κs = search needs
 
-after-requires : tie.Need-after-requires
-after-requires c κs = search needs
+ahead-requires : tie.Need-ahead-requires
+ahead-requires c κs = search needs
 
 returns : tie.Need-returns
-returns c = rw (c .after .ensures, c .before .goes .ensures) (pushes (Action.Send (c .before .before .args .m)) (to (c .before .before .args .p) [] (c .before .before .args .s)))
+returns c = rw (c .ahead .ensures, c .before .to .ensures) (pushes (Action.Send (c .before .before .args .m)) (to (c .before .before .args .p) [] (c .before .before .args .s)))
 
 pub sends-spec : {M : Type 1} → statement M
-sends-spec = tie.close (tie.spec goes-requires after-requires returns)
+sends-spec = tie.close (tie.spec to-requires ahead-requires returns)

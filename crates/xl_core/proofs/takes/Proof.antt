@@ -23,11 +23,11 @@ returns c = rw (c .on-break .ensures, c .before .before .e .given .1)
 enum-told : tie.Need-enum-told
 enum-told c = search needs
 
-goes-requires : tie.Need-goes-requires
-goes-requires c κs = search needs
+to-requires : tie.Need-to-requires
+to-requires c κs = search needs
 
 returns-2 : tie.Need-returns-2
-returns-2 c = rw (c .goes .ensures, c .before .enum-told .given .1)
+returns-2 c = rw (c .to .ensures, c .before .enum-told .given .1)
 
 by-phase-requires : tie.Need-by-phase-requires
 by-phase-requires c κs = search needs
@@ -43,7 +43,7 @@ takes-spec =
     on-break-requires
     returns
     enum-told
-    goes-requires
+    to-requires
     returns-2
     by-phase-requires
     returns-3)

@@ -3,14 +3,14 @@ use borrow.Author.Needs.{needs}
 use Rattle.xl_core.proofs.transmits_here.Statement.{statement}
 use Rattle.xl_core.proofs.transmits_here.Tie as tie
 
-stays-requires : tie.Need-stays-requires
-stays-requires c κs = search needs
+stay-requires : tie.Need-stay-requires
+stay-requires c κs = search needs
 
-after-requires : tie.Need-after-requires
-after-requires c κs = search needs
+ahead-requires : tie.Need-ahead-requires
+ahead-requires c κs = search needs
 
 returns : tie.Need-returns
-returns c = rw (c .after .ensures, c .before .stays .ensures)
+returns c = rw (c .ahead .ensures, c .before .stay .ensures)
 
 pub transmits-here-spec : {M : Type 1} → statement M
-transmits-here-spec = tie.close (tie.spec stays-requires after-requires returns)
+transmits-here-spec = tie.close (tie.spec stay-requires ahead-requires returns)

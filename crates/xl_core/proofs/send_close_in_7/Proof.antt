@@ -1,7 +1,7 @@
--- The branch is on a remembered CLOSE, as in `closing`. Assumes nothing.
+-- The branch is on a remembered CLOSE, as in `sendCloseIn7`. Assumes nothing.
 use borrow.Author.Needs.{needs}
-use Rattle.xl_core.proofs.closes_in_7.Statement.{statement}
-use Rattle.xl_core.proofs.closes_in_7.Tie as tie
+use Rattle.xl_core.proofs.send_close_in_7.Statement.{statement}
+use Rattle.xl_core.proofs.send_close_in_7.Tie as tie
 
 transmits-requires : tie.Need-transmits-requires
 transmits-requires c κs = search needs
@@ -15,5 +15,5 @@ transmits-requires-2 c κs = search needs
 returns-2 : tie.Need-returns-2
 returns-2 c = rw (c .transmits2 .ensures, c .before .if1 .left)
 
-pub closes-in-7-spec : {M : Type 1} → statement M
-closes-in-7-spec = tie.close (tie.spec transmits-requires returns transmits-requires-2 returns-2)
+pub send-close-in-7-spec : {M : Type 1} → statement M
+send-close-in-7-spec = tie.close (tie.spec transmits-requires returns transmits-requires-2 returns-2)

@@ -1,7 +1,7 @@
 -- Each case is computed, with what its callees promise. Assumes nothing.
 use borrow.Author.Needs.{needs}
-use Rattle.xl.proofs.is_fielded.Statement.{statement}
-use Rattle.xl.proofs.is_fielded.Tie as tie
+use Rattle.xl.proofs.fielded.Statement.{statement}
+use Rattle.xl.proofs.fielded.Tie as tie
 
 enum-told : tie.Need-enum-told
 enum-told c = search needs
@@ -18,5 +18,5 @@ returns c = rw (c .enum-told .given .1)
 returns-2 : tie.Need-returns-2
 returns-2 c = rw (c .listed .ensures, c .before .before .before .h .given .1)
 
-pub is-fielded-spec : {M : Type 1} → statement M
-is-fielded-spec = tie.close (tie.spec enum-told enum-known-h listed-requires returns returns-2)
+pub fielded-spec : {M : Type 1} → statement M
+fielded-spec = tie.close (tie.spec enum-told enum-known-h listed-requires returns returns-2)

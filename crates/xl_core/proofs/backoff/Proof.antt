@@ -1,7 +1,7 @@
 -- `comes_back` is the test of `backoff`, and both arms hold the OPEN received. Assumes nothing.
 use borrow.Author.Needs.{needs}
-use Rattle.xl_core.proofs.backs_off.Statement.{statement}
-use Rattle.xl_core.proofs.backs_off.Tie as tie
+use Rattle.xl_core.proofs.backoff.Statement.{statement}
+use Rattle.xl_core.proofs.backoff.Tie as tie
 
 holding-requires : tie.Need-holding-requires
 holding-requires c κs = search needs
@@ -21,8 +21,8 @@ sends-requires-2 c κs = search needs
 returns-2 : tie.Need-returns-2
 returns-2 c = rw (c .sends2 .ensures, c .before .before .before .holding .ensures, ← c .before .before .comes-back .ensures, c .before .if1 .left)
 
-pub backs-off-spec : {M : Type 1} → statement M
-backs-off-spec =
+pub backoff-spec : {M : Type 1} → statement M
+backoff-spec =
     tie.close
     (tie.spec
     holding-requires
