@@ -1,55 +1,42 @@
 -- Document 01, 'XL': what a run of events leaves, each event given as a number. Assumes nothing.
 use Prim.Native.Nat.{ℕ, zero, suc, _+_, _*_, _/_, _%_}
-use mathlib.Core.List.{List, [], _∷_}
+use mathlib.Core.List.{List, [], _∷_, map}
 use lib.ListN.{length, getD}
 use Rattle.open_frame.specs.declared.OpenFrame.{OpenFrame}
-use Rattle.xl_parts.specs.declared.Wait.{Wait}
-use Rattle.xl_parts.specs.declared.Reject.{Reject}
-use Rattle.xl_parts.specs.declared.Denial.{Denial}
-use Rattle.xl_parts.specs.declared.Arbitration.{Arbitration}
 use Rattle.xl_parts.specs.declared.Primitive.{Primitive}
-use Rattle.xl_parts.specs.declared.Message.{Message}
-use Rattle.xl_parts.specs.declared.Confirmation.{Confirmation}
-use Rattle.xl_parts.specs.declared.Notice.{Notice}
-use Rattle.xl_parts.specs.declared.BreakEvent.{BreakEvent}
 use Rattle.xl_parts.specs.declared.Event.{Event}
 use Rattle.xl_parts.specs.declared.Action.{Action}
 use Rattle.xl_parts.specs.declared.Stepped.{Stepped}
-use Rattle.xl_parts.specs.Parts.{phaseNumber, ready}
+use Rattle.xl_parts.specs.Parts.{ready}
+use Rattle.xl_numbers.specs.declared.codes.Code.{Code}
+use Rattle.xl_numbers.specs.declared.codes.EventRead.{EventRead}
+use Rattle.xl_numbers.specs.States.{phaseNumber}
+use Rattle.xl_numbers.specs.Codes.{coded, eventOf}
 use Rattle.xl.specs.Steps.{stepOf}
 use Rattle.bench_links.specs.declared.Tally.{Tally}
 
--- the events in the order of their numbers
-abbrev pub eventList : List Event
-eventList =
-    Event.Line Primitive.Open
-    ∷ Event.Line Primitive.OpenAccept
-    ∷ Event.Line (Primitive.OpenReject Reject.Retry)
-    ∷ Event.Line (Primitive.Aip Wait.Partial)
-    ∷ Event.Line Primitive.Close
-    ∷ Event.Router Message.SendOpen
-    ∷ Event.Router Message.SendClose
-    ∷ Event.Router (Message.ArbStatus Wait.Partial)
-    ∷ Event.Router Message.OpenAccept
-    ∷ Event.Router (Message.OpenReject Reject.Retry)
-    ∷ Event.Router Message.BackoffRetry
-    ∷ Event.Router Message.BackoffReversePath
-    ∷ Event.Manager Confirmation.ArbWon
-    ∷ Event.Manager Confirmation.ArbLost
-    ∷ Event.Manager (Confirmation.ArbReject Denial.BadLinkRate)
-    ∷ Event.Manager (Confirmation.Arbitrating Arbitration.BlockedOnPartial)
-    ∷ Event.Own Notice.PathTimer
-    ∷ Event.Own Notice.Sent
-    ∷ Event.Own Notice.Forwarded
-    ∷ Event.Break BreakEvent.Received
-    ∷ Event.Break BreakEvent.Routed
-    ∷ Event.Break BreakEvent.Timeout
-    ∷ Event.Disable
+-- an event of each kind, by its code, in the order of their numbers here
+abbrev pub codes : List Code
+codes =
+    coded 1 0 ∷ coded 2 0 ∷ coded 3 7 ∷ coded 4 1 ∷ coded 5 0
+    ∷ coded 16 0 ∷ coded 17 0 ∷ coded 19 1 ∷ coded 20 0 ∷ coded 21 7 ∷ coded 22 0 ∷ coded 23 0
+    ∷ coded 32 0 ∷ coded 33 0 ∷ coded 34 2 ∷ coded 35 1
+    ∷ coded 48 0 ∷ coded 49 0 ∷ coded 50 0
+    ∷ coded 6 0 ∷ coded 18 0 ∷ coded 51 0
+    ∷ coded 63 0
     ∷ []
 
+-- each of these codes names an event
+abbrev pub named : EventRead → Event
+named (EventRead.Named e) = e
+named EventRead.Unnamed = Event.Disable
+
+unfoldable pub kinds : List Event
+kinds = map (λ (c : Code). named (eventOf c)) codes
+
 -- below 23; nobody asks for another
-abbrev pub eventOf : ℕ → Event
-eventOf n = getD eventList n (Event.Line Primitive.Open)
+abbrev pub eventAt : ℕ → Event
+eventAt n = getD kinds n (Event.Line Primitive.Open)
 
 abbrev pub frameOf : ℕ → ℕ → ℕ → OpenFrame
 frameOf n destination source = record {
@@ -79,7 +66,7 @@ turnOf f e t = tallied (stepOf f e (t .state)) (t .sum)
 
 -- the event and the frame of a number
 abbrev pub numbered : ℕ → ℕ → ℕ → Tally → Tally
-numbered destination source n t = turnOf (frameOf (n / 23) destination source) (eventOf (n % 23)) t
+numbered destination source n t = turnOf (frameOf (n / 23) destination source) (eventAt (n % 23)) t
 
 abbrev pub begun : Tally
 begun = record { state = ready; sum = 0 }

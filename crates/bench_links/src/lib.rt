@@ -1,12 +1,13 @@
 // What the bench measures: steps of document 01's XL on a run of events that C chooses. C lends no enum, so an event is a number
 // and the state stays within the call.
 ghost use mathlib.Core.Path.{_≡_};
-ghost use Rattle.xl_parts.specs.Parts.{phaseNumber};
-ghost use Rattle.bench_links.specs.Runs.{eventList, frameOf, weightOf, mixOf, turnOf, afterAll};
+ghost use Rattle.bench_links.specs.Runs as runs;
+ghost use Rattle.bench_links.specs.Runs.{frameOf, weightOf, mixOf, turnOf, afterAll};
 use open_frame::Awt;
 use open_frame::Head;
 use open_frame::OpenFrame;
 use open_frame::Pbc;
+use xl_numbers::states;
 use xl_parts::Action;
 use xl_parts::Arbitration;
 use xl_parts::BreakEvent;
@@ -15,7 +16,6 @@ use xl_parts::Denial;
 use xl_parts::Event;
 use xl_parts::Message;
 use xl_parts::Notice;
-use xl_parts::Phase;
 use xl_parts::Primitive;
 use xl_parts::Reject;
 use xl_parts::State;
@@ -27,9 +27,9 @@ struct Tally {
     pub sum: u32,
 }
 
-// The events in the order of their numbers.
+// An event of each kind, in the order of their numbers here.
 fn kinds() -> [Event; 23]
-    ensures { λ r. ⌜ r ≡ eventList ⌝ }
+    ensures { λ r. ⌜ r ≡ runs.kinds ⌝ }
 {
     [
         Event::Line(Primitive::Open),
@@ -90,29 +90,12 @@ fn weight(a: Action) -> u32
     }
 }
 
-fn phase(p: Phase) -> u32
-    ensures { λ r. ⌜ r ≡ phaseNumber p ⌝ }
-{
-    match p {
-        Phase::Xl0 => 0,
-        Phase::Xl1 => 1,
-        Phase::Xl2 => 2,
-        Phase::Xl3 => 3,
-        Phase::Xl4 => 4,
-        Phase::Xl5 => 5,
-        Phase::Xl6 => 6,
-        Phase::Xl7 => 7,
-        Phase::Xl8 => 8,
-        Phase::Xl9 => 9,
-        Phase::Xl10 => 10,
-    }
-}
-
 // The sum with a step in it.
-fn mix(sum: u32, p: u32, a: u32, b: u32, c: u32, d: u32) -> u32
+fn mix(sum: u32, p: u8, a: u32, b: u32, c: u32, d: u32) -> u32
     ensures { λ r. ⌜ r ≡ mixOf sum p a b c d ⌝ }
 {
-    sum % 65536 * 31 + (p % 16 * 4096 + (a % 8 * 512 + (b % 8 * 64 + (c % 8 * 8 + d % 8))))
+    sum % 0x10000 * 31
+        + ((p % 16) as u32 * 0x1000 + (a % 8 * 0x200 + (b % 8 * 0x40 + (c % 8 * 8 + d % 8))))
 }
 
 fn turn(t: Tally, e: Event, f: OpenFrame) -> Tally
@@ -131,7 +114,7 @@ fn turn(t: Tally, e: Event, f: OpenFrame) -> Tally
         state,
         sum: mix(
             t.sum,
-            phase(p),
+            states::phase_number(p),
             weight(first),
             weight(second),
             weight(third),
@@ -147,7 +130,7 @@ pub extern "C" fn bench_links(events: &[u8], destination: u64, source: u64) -> u
 {
     let table = kinds();
     let mut t = Tally {
-        state: xl_parts::unlinked(),
+        state: xl_parts::ready(),
         sum: 0,
     };
     let mut i = 0;

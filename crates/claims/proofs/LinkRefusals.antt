@@ -29,8 +29,8 @@ use Rattle.xl_parts.specs.declared.Answer.{Answer}
 use Rattle.xl_parts.specs.declared.Stepped.{Stepped}
 use Rattle.xl_parts.specs.Parts.{done}
 use Rattle.xl_rows.specs.Table.{takes}
-use Rattle.xl.specs.Rules.{fielded, isFrame, works, rules}
-use Rattle.xl.specs.Steps.{framed, causes, refused, opened, stepOf, receiveOf}
+use Rattle.xl.specs.Rules.{fielded, isFrame, works, keepsRules}
+use Rattle.xl.specs.Steps.{hasFrame, causes, refused, opened, stepOf, receiveOf}
 use Rattle.xl.specs.Status.{inPhase, waiting, statusOf}
 use Rattle.xl_parts.specs.declared.LinkStatus.{LinkStatus}
 use Rattle.claims.specs.Causes.{Bytes}
@@ -38,14 +38,14 @@ use Rattle.claims.specs.Links.{Brings, Working, in1, in2, in3, in4, in5,
 use Rattle.claims.proofs.Calls.{Step, Receive, Status}
 use Rattle.claims.proofs.Grounds.{open-length, open-bytes, open-fields}
 
-line-brings : (p : Primitive) → framed (Event.Line p) ≡ true → Brings (Event.Line p)
+line-brings : (p : Primitive) → hasFrame (Event.Line p) ≡ true → Brings (Event.Line p)
 line-brings Primitive.Open e = inl refl
 line-brings Primitive.OpenAccept e = impossible e
 line-brings (Primitive.OpenReject k) e = impossible e
 line-brings (Primitive.Aip w) e = impossible e
 line-brings Primitive.Close e = impossible e
 
-router-brings : (m : Message) → framed (Event.Router m) ≡ true → Brings (Event.Router m)
+router-brings : (m : Message) → hasFrame (Event.Router m) ≡ true → Brings (Event.Router m)
 router-brings Message.SendOpen e = inr (inl refl)
 router-brings Message.SendClose e = impossible e
 router-brings (Message.ArbStatus w) e = impossible e
@@ -54,10 +54,10 @@ router-brings (Message.OpenReject k) e = impossible e
 router-brings Message.BackoffRetry e = impossible e
 router-brings Message.BackoffReversePath e = inr (inr refl)
 
-brings : (e : Event) → (framed e ≡ true) ↔ Brings e
+brings : (e : Event) → (hasFrame e ≡ true) ↔ Brings e
 brings e = (there e, back)
   where
-    there : (e : Event) → framed e ≡ true → Brings e
+    there : (e : Event) → hasFrame e ≡ true → Brings e
     there (Event.Line p) h = line-brings p h
     there (Event.Router m) h = router-brings m h
     there (Event.Manager c) h = impossible h
@@ -65,10 +65,10 @@ brings e = (there e, back)
     there (Event.Break b) h = impossible h
     there Event.Disable h = impossible h
 
-    back : Brings e → framed e ≡ true
-    back (inl h) = ap framed h
-    back (inr (inl h)) = ap framed h
-    back (inr (inr h)) = ap framed h
+    back : Brings e → hasFrame e ≡ true
+    back (inl h) = ap hasFrame h
+    back (inr (inl h)) = ap hasFrame h
+    back (inr (inr h)) = ap hasFrame h
 
 working : (p : Phase) → (works p ≡ true) ↔ Working p
 working p = (there p, back p)
@@ -103,13 +103,13 @@ frame-held : (h : Held) → Says (isFrame h) (h ≡ Held.Nothing → ⊥)
 frame-held Held.Nothing = (impossible, λ n. absurd (n refl))
 frame-held (Held.Frame f) = (λ e n. never (sym (ap isFrame n)), λ n. refl)
 
-rules-say : (s : State) → Says (rules s) (Rules s)
-unfolding rules
+rules-say : (s : State) → Says (keepsRules s) (Rules s)
+unfolding keepsRules
 rules-say s =
     means (both (fields (s .memory .held)) (both (fields (s .memory .heard)) (implies (working (s .phase)) (frame-held (s .memory .held)))))
     (λ h. record { held = h .0; remembered = h .1 .0; holds = h .1 .1 }, λ r. (r .held, (r .remembered, r .holds)))
 
-broken : (s : State) → (not (rules s) ≡ true) ↔ (Rules s → ⊥)
+broken : (s : State) → (not (keepsRules s) ≡ true) ↔ (Rules s → ⊥)
 broken s = unless (rules-say s)
 
 step-decides : (f : OpenFrame) (e : Event) (s : State) → Decides (causes f e s) (stepGrounds f e s)
@@ -153,7 +153,7 @@ refuse-under {A} re cs a b h = by (verdict cs)
     by (passes off e) = e A re a ∙ h off ∙ sym (e A re b)
 
 abbrev receiveCauses : List ℕ → State → List Cause
-receiveCauses b s = readCauses b ++ ((Refusal.Rules when not (rules s)) ∷ [])
+receiveCauses b s = readCauses b ++ ((Refusal.Rules when not (keepsRules s)) ∷ [])
 
 receive-is : (b : List ℕ) (s : State) → receiveOf b s ≡ refuse (refused s) (receiveCauses b s) (done (takes (frameOf b) (Event.Line Primitive.Open) s))
 unfolding receiveOf readOpen stepOf
@@ -161,9 +161,9 @@ receive-is b s =
     let f = frameOf b in
     let e = Event.Line Primitive.Open in
     through (λ (r : OpenRead). opened r s) OpenRead.Refused (readCauses b) (OpenRead.Frame f)
-    ∙ refuse-under (refused s) (readCauses b) (refuse (refused s) (causes f e s) (done (takes f e s))) (refuse (refused s) ((Refusal.Rules when not (rules s)) ∷ []) (done (takes f e s)))
-    (λ off. ap (λ (t : Bool). refuse (refused s) ((Refusal.Unlisted when not t) ∷ (Refusal.Rules when not (rules s)) ∷ []) (done (takes f e s))) (and-right (typed b) _ (not-false (typed b && headListed (headOf b)) (off .1 .0))))
-    ∙ sym (refuse-append (refused s) (readCauses b) ((Refusal.Rules when not (rules s)) ∷ []) (done (takes f e s)))
+    ∙ refuse-under (refused s) (readCauses b) (refuse (refused s) (causes f e s) (done (takes f e s))) (refuse (refused s) ((Refusal.Rules when not (keepsRules s)) ∷ []) (done (takes f e s)))
+    (λ off. ap (λ (t : Bool). refuse (refused s) ((Refusal.Unlisted when not t) ∷ (Refusal.Rules when not (keepsRules s)) ∷ []) (done (takes f e s))) (and-right (typed b) _ (not-false (typed b && headListed (headOf b)) (off .1 .0))))
+    ∙ sym (refuse-append (refused s) (readCauses b) ((Refusal.Rules when not (keepsRules s)) ∷ []) (done (takes f e s)))
 
 receive-refuses : (b : List ℕ) (s : State) (r : Stepped) → Bytes b → r ≡ receiveOf b s → Refuses (receiveGrounds b s) s r
 receive-refuses b s r small is =

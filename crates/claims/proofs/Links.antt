@@ -28,7 +28,7 @@ use Rattle.xl_parts.specs.declared.Answer.{Answer}
 use Rattle.xl_parts.specs.Parts.{ready}
 use Rattle.xl_rows.specs.Table.{takes}
 use Rattle.xl_rows.specs.Sentences.{oneOf, link, known}
-use Rattle.xl.specs.Rules.{rules}
+use Rattle.xl.specs.Rules.{keepsRules}
 use Rattle.xl.specs.Steps.{opened, stepOf, receiveOf}
 use Rattle.xl.specs.Status.{statusOf}
 use Rattle.xl_calls.specs.Links.{Call, event, bytes, callOf, run, surprises, brought, frames, names, some, listOf, gapless, Shows, In}
@@ -57,8 +57,8 @@ pub record Links : Type 0 where
   -- 01 XL.39
   pub statuses : (c : Status) → c .answer ≡ statusOf (c .args .0)
   -- every call takes a state that keeps the rules to one that keeps them, over any list of calls; so from XL0
-  pub keeps : (cs : List Call) (s : State) → rules s ≡ true → rules (run cs s) ≡ true
-  pub from-ready : (cs : List Call) → rules (after cs) ≡ true
+  pub keeps : (cs : List Call) (s : State) → keepsRules s ≡ true → keepsRules (run cs s) ≡ true
+  pub from-ready : (cs : List Call) → keepsRules (after cs) ≡ true
   -- the count is the number of events that were not listed for the state that they met, at most 4,294,967,295
   pub counts : (cs : List Call) → after cs .count ≡ min (surprises cs ready) 4294967295
   -- every frame transmitted or forwarded is the frame held, and one that was received or sent in
@@ -66,9 +66,9 @@ pub record Links : Type 0 where
   -- byte for byte: the bytes of a frame that was received, but those that aren't carried
   pub same-bytes : (b : List ℕ) (f : OpenFrame) → Bytes b → readOpen b ≡ OpenRead.Frame f → openBytes f ≡ cleared notCarried b
   -- actions are in order, with no gap
-  pub in-order : (s : State) → rules s ≡ true → (c : Call) → gapless (listOf (callOf c s .actions)) ≡ true
+  pub in-order : (s : State) → keepsRules s ≡ true → (c : Call) → gapless (listOf (callOf c s .actions)) ≡ true
   -- they are at most four, so that a step leaves none of its row out
-  pub at-most-four : (s : State) → rules s ≡ true → (f : OpenFrame) (e : Event) → stepOf f e s .answer ≡ Answer.Done → length (takes f e s .actions) ≤ 4
+  pub at-most-four : (s : State) → keepsRules s ≡ true → (f : OpenFrame) (e : Event) → stepOf f e s .answer ≡ Answer.Done → length (takes f e s .actions) ≤ 4
   -- in XL6 the memory holds the latest AIP that came there since the OPEN was transmitted
   pub remembers-aip : (cs : List Call) → after cs .phase ≡ Phase.Xl6 → after cs .memory .aip ≡ aipMet (history cs)
   -- the frame that a SendOpen in XL0 brings, or a BackoffReversePath in XL3, is the one transmitted
@@ -107,7 +107,7 @@ pub record Links : Type 0 where
   -- a call releases a path exactly if it takes the link from a state to one of those that its path is left to
   pub path-left : (s : State) (c : Call) → releases s (callOf c s .state) ≡ oneOf (callOf c s .state .phase) (leavesTo (s .phase))
   -- Disable gives XL0 with no action and no memory but the count
-  pub disables : (s : State) (f : OpenFrame) → rules s ≡ true → stepOf f Event.Disable s ≡ answers (link Phase.Xl0 (known Held.Nothing Held.Nothing Seen.Never false false false) (s .count)) []
+  pub disables : (s : State) (f : OpenFrame) → keepsRules s ≡ true → stepOf f Event.Disable s ≡ answers (link Phase.Xl0 (known Held.Nothing Held.Nothing Seen.Never false false false) (s .count)) []
 
 new : Good (λ f. In f []) ready
 new = record { held = tt; heard = tt; holds = impossible }

@@ -13,7 +13,7 @@ use Rattle.xl_rows.specs.Sentences.{Sentences}
 use Rattle.xl_rows.specs.Chains.{Chains}
 use Rattle.xl_rows.proofs.Sentences.{sentences}
 use Rattle.xl_rows.proofs.Chains.{chains}
-use Rattle.xl.specs.Rules.{rules}
+use Rattle.xl.specs.Rules.{keepsRules}
 use Rattle.xl.specs.Steps.{stepOf}
 use Rattle.xl.specs.Status.{statusOf}
 use Rattle.xl_calls.specs.After.{answers}
@@ -29,7 +29,7 @@ pub record Rows : Type 0 where
   pub each : (f : OpenFrame) (m : Memory) (n : ℕ) → Sentences takes f m n
   pub chained : (f g : OpenFrame) (m : Memory) (n : ℕ) → Chains takes f g m n
   -- 01 XL.39
-  pub status : (s : State) → rules s ≡ true → Statuses statusOf s
+  pub status : (s : State) → keepsRules s ≡ true → Statuses statusOf s
 
 pub rows : Rows
 rows = record { steps = does; each = sentences; chained = chains; status = statuses }

@@ -83,16 +83,34 @@ use Rattle.runs.proofs.feed.Kinds as feed-of
 use Rattle.runs.proofs.feed.Reads as feed
 use Rattle.runs.proofs.close.Kinds as close-of
 use Rattle.runs.proofs.close.Reads as close
-use Rattle.xl_parts.proofs.unlinked.Kinds as unlinked-of
-use Rattle.xl_parts.proofs.unlinked.Reads as unlinked
-use Rattle.xl_parts.proofs.stays.Kinds as stays-of
-use Rattle.xl_parts.proofs.stays.Reads as stays
-use Rattle.xl_parts.proofs.goes.Kinds as goes-of
-use Rattle.xl_parts.proofs.goes.Reads as goes
-use Rattle.xl_parts.proofs.after.Kinds as after-of
-use Rattle.xl_parts.proofs.after.Reads as after
-use Rattle.xl_takes.proofs.takes.Kinds as takes-of
-use Rattle.xl_takes.proofs.takes.Reads as takes
+use Rattle.xl_parts.proofs.ready.Kinds as ready-of
+use Rattle.xl_parts.proofs.ready.Reads as ready
+use Rattle.xl_parts.proofs.stay.Kinds as stay-of
+use Rattle.xl_parts.proofs.stay.Reads as stay
+use Rattle.xl_parts.proofs.to.Kinds as to-of
+use Rattle.xl_parts.proofs.to.Reads as to
+use Rattle.xl_parts.proofs.ahead.Kinds as ahead-of
+use Rattle.xl_parts.proofs.ahead.Reads as ahead
+use Rattle.xl_numbers.proofs.states.phase_number.Kinds as phase-number-of
+use Rattle.xl_numbers.proofs.states.phase_number.Reads as phase-number
+use Rattle.xl_numbers.proofs.states.phase_of.Kinds as phase-read-of
+use Rattle.xl_numbers.proofs.states.phase_of.Reads as phase-read
+use Rattle.xl_numbers.proofs.states.aip_number.Kinds as aip-number-of
+use Rattle.xl_numbers.proofs.states.aip_number.Reads as aip-number
+use Rattle.xl_numbers.proofs.states.aip_of.Kinds as aip-read-of
+use Rattle.xl_numbers.proofs.states.aip_of.Reads as aip-read
+use Rattle.xl_numbers.proofs.states.status_number.Kinds as status-number-of
+use Rattle.xl_numbers.proofs.states.status_number.Reads as status-number
+use Rattle.xl_numbers.proofs.codes.event_number.Kinds as event-number-of
+use Rattle.xl_numbers.proofs.codes.event_number.Reads as event-number
+use Rattle.xl_numbers.proofs.codes.event_of.Kinds as event-read-of
+use Rattle.xl_numbers.proofs.codes.event_of.Reads as event-read
+use Rattle.xl_numbers.proofs.codes.action_number.Kinds as action-number-of
+use Rattle.xl_numbers.proofs.codes.action_number.Reads as action-number
+use Rattle.xl_numbers.proofs.codes.action_of.Kinds as action-read-of
+use Rattle.xl_numbers.proofs.codes.action_of.Reads as action-read
+use Rattle.xl_core.proofs.takes.Kinds as takes-of
+use Rattle.xl_core.proofs.takes.Reads as takes
 use Rattle.xl.proofs.step.Kinds as xl-step-of
 use Rattle.xl.proofs.step.Reads as xl-step
 use Rattle.xl.proofs.receive.Kinds as xl-receive-of
@@ -261,10 +279,19 @@ pub record Total : Type 2 where
   pub take-line : Anything 2 take-line-of.ps take-line.Pre
   pub feed : Anything 2 feed-of.ps feed.Pre
   pub close : Anything 1 close-of.ps close.Pre
-  pub unlinked : Anything 0 unlinked-of.ps unlinked.Pre
-  pub stays : Anything 0 stays-of.ps stays.Pre
-  pub goes : Anything 0 goes-of.ps goes.Pre
-  pub after : Anything 0 after-of.ps after.Pre
+  pub ready : Anything 0 ready-of.ps ready.Pre
+  pub stay : Anything 0 stay-of.ps stay.Pre
+  pub to : Anything 0 to-of.ps to.Pre
+  pub ahead : Anything 0 ahead-of.ps ahead.Pre
+  pub phase-number : Anything 0 phase-number-of.ps phase-number.Pre
+  pub phase-read : Anything 0 phase-read-of.ps phase-read.Pre
+  pub aip-number : Anything 0 aip-number-of.ps aip-number.Pre
+  pub aip-read : Anything 0 aip-read-of.ps aip-read.Pre
+  pub status-number : Anything 0 status-number-of.ps status-number.Pre
+  pub event-number : Anything 0 event-number-of.ps event-number.Pre
+  pub event-read : Anything 0 event-read-of.ps event-read.Pre
+  pub action-number : Anything 0 action-number-of.ps action-number.Pre
+  pub action-read : Anything 0 action-read-of.ps action-read.Pre
   pub takes : Anything 0 takes-of.ps takes.Pre
   pub xl-step : Anything 0 xl-step-of.ps xl-step.Pre
   pub xl-receive : Anything 1 xl-receive-of.ps xl-receive.Pre
@@ -379,10 +406,19 @@ total = record {
   take-line = λ κs a. tt;
   feed = λ κs a. tt;
   close = λ κs a. tt;
-  unlinked = λ κs a. tt;
-  stays = λ κs a. tt;
-  goes = λ κs a. tt;
-  after = λ κs a. tt;
+  ready = λ κs a. tt;
+  stay = λ κs a. tt;
+  to = λ κs a. tt;
+  ahead = λ κs a. tt;
+  phase-number = λ κs a. tt;
+  phase-read = λ κs a. tt;
+  aip-number = λ κs a. tt;
+  aip-read = λ κs a. tt;
+  status-number = λ κs a. tt;
+  event-number = λ κs a. tt;
+  event-read = λ κs a. tt;
+  action-number = λ κs a. tt;
+  action-read = λ κs a. tt;
   takes = λ κs a. tt;
   xl-step = λ κs a. tt;
   xl-receive = λ κs a. tt;

@@ -29,5 +29,5 @@ works Phase.Xl9 = false
 works Phase.Xl10 = false
 
 -- 01 XL.4: Rules of a state: XL0 to XL10; held or remembered frames have fields as in OPEN; XL1 to XL6 hold a frame.
-unfoldable pub rules : State → Bool
-rules s = fielded (s .memory .held) && (fielded (s .memory .heard) && (not (works (s .phase)) || isFrame (s .memory .held)))
+unfoldable pub keepsRules : State → Bool
+keepsRules s = fielded (s .memory .held) && (fielded (s .memory .heard) && (not (works (s .phase)) || isFrame (s .memory .held)))

@@ -8,7 +8,7 @@ use Rattle.xl_parts.specs.declared.Wait.{Wait}
 use Rattle.xl_parts.specs.declared.Seen.{Seen}
 use Rattle.xl_parts.specs.declared.State.{State}
 use Rattle.xl_parts.specs.declared.LinkStatus.{LinkStatus}
-use Rattle.xl.specs.Rules.{rules}
+use Rattle.xl.specs.Rules.{keepsRules}
 
 abbrev pub waiting : Seen → LinkStatus
 waiting Seen.Never = LinkStatus.Partial
@@ -32,7 +32,7 @@ inPhase Phase.Xl9 a = LinkStatus.Partial
 inPhase Phase.Xl10 a = LinkStatus.Partial
 
 abbrev pub statusCauses : State → List Cause
-statusCauses s = (Refusal.Rules when not (rules s)) ∷ []
+statusCauses s = (Refusal.Rules when not (keepsRules s)) ∷ []
 
 unfoldable pub statusOf : State → LinkStatus
 statusOf s = refuse LinkStatus.Refused (statusCauses s) (inPhase (s .phase) (s .memory .aip))

@@ -17,18 +17,18 @@ use Rattle.xl_parts.specs.declared.Stepped.{Stepped}
 use Rattle.xl_parts.specs.Parts.{packed, done}
 use Rattle.xl_parts.specs.Kinds.{kindOf, same}
 use Rattle.xl_rows.specs.Table.{takes}
-use Rattle.xl.specs.Rules.{rules}
+use Rattle.xl.specs.Rules.{keepsRules}
 
 -- the events that a frame goes with
-abbrev pub framed : Event → Bool
-framed e =
+abbrev pub hasFrame : Event → Bool
+hasFrame e =
     same (kindOf e) (kindOf (Line Primitive.Open))
     || (same (kindOf e) (kindOf (Router Message.SendOpen)) || same (kindOf e) (kindOf (Router Message.BackoffReversePath)))
 
 -- 01 REFUSAL.2: a field, event or line isn't one listed here
 -- 01 REFUSAL.3: a setup number is out of range, or a lent state breaks its rules
 abbrev pub causes : OpenFrame → Event → State → List Cause
-causes f e s = (Refusal.Unlisted when (framed e && not (headListed (f .head)))) ∷ (Refusal.Rules when not (rules s)) ∷ []
+causes f e s = (Refusal.Unlisted when (hasFrame e && not (headListed (f .head)))) ∷ (Refusal.Rules when not (keepsRules s)) ∷ []
 
 -- a refusal leaves the state as it was, and does nothing
 abbrev pub refused : State → Refusal → Stepped

@@ -2,10 +2,12 @@
 ghost use mathlib.Core.Path.{_≡_};
 ghost use mathlib.Core.Bool.{not, _&&_};
 ghost use Rattle.open_frame.specs.Open.{headListed};
-ghost use Rattle.xl.specs.Rules as rule;
-ghost use Rattle.xl.specs.Rules.{fielded, isFrame, works};
-ghost use Rattle.xl.specs.Steps.{framed, refused, reason, stepOf, receiveOf};
-ghost use Rattle.xl.specs.Status.{waiting, inPhase, statusOf};
+ghost use Rattle.xl.specs.Rules as rules;
+ghost use Rattle.xl.specs.Rules.{isFrame, keepsRules};
+ghost use Rattle.xl.specs.Steps as steps;
+ghost use Rattle.xl.specs.Steps.{hasFrame, stepOf, receiveOf};
+ghost use Rattle.xl.specs.Status as link;
+ghost use Rattle.xl.specs.Status.{inPhase, statusOf};
 use open_frame::OpenFrame;
 use open_frame::OpenRead;
 use refusals::Refusal;
@@ -21,10 +23,10 @@ use xl_parts::Seen;
 use xl_parts::State;
 use xl_parts::Stepped;
 use xl_parts::Wait;
-use xl_parts::stays;
+use xl_parts::stay;
 
-fn is_fielded(h: Held) -> bool
-    ensures { λ r. ⌜ r ≡ fielded h ⌝ }
+fn fielded(h: Held) -> bool
+    ensures { λ r. ⌜ r ≡ rules.fielded h ⌝ }
 {
     match h {
         Held::Nothing => true,
@@ -45,8 +47,8 @@ fn is_frame(h: Held) -> bool
 }
 
 // XL1 to XL6.
-fn at_work(p: Phase) -> bool
-    ensures { λ r. ⌜ r ≡ works p ⌝ }
+fn works(p: Phase) -> bool
+    ensures { λ r. ⌜ r ≡ rules.works p ⌝ }
 {
     match p {
         Phase::Xl0 => false,
@@ -64,18 +66,18 @@ fn at_work(p: Phase) -> bool
 }
 
 fn keeps_rules(s: State) -> bool
-    ensures { λ r. ⌜ r ≡ rule.rules s ⌝ }
+    ensures { λ r. ⌜ r ≡ keepsRules s ⌝ }
 {
     let m = s.memory;
     let phase = s.phase;
     let held = m.held;
     let heard = m.heard;
-    is_fielded(held) & (is_fielded(heard) & (!at_work(phase) | is_frame(held)))
+    fielded(held) & (fielded(heard) & (!works(phase) | is_frame(held)))
 }
 
 // Whether a frame goes with the event.
 fn has_frame(e: Event) -> bool
-    ensures { λ r. ⌜ r ≡ framed e ⌝ }
+    ensures { λ r. ⌜ r ≡ hasFrame e ⌝ }
 {
     match e {
         Event::Line(p) => match p {
@@ -91,10 +93,10 @@ fn has_frame(e: Event) -> bool
     }
 }
 
-fn refuses(s: State, k: Refusal) -> Stepped
-    ensures { λ r. ⌜ r ≡ refused s k ⌝ }
+fn refused(s: State, k: Refusal) -> Stepped
+    ensures { λ r. ⌜ r ≡ steps.refused s k ⌝ }
 {
-    let still = stays(s);
+    let still = stay(s);
     let actions = still.actions;
     Stepped {
         answer: Answer::Refused(k),
@@ -105,7 +107,7 @@ fn refuses(s: State, k: Refusal) -> Stepped
 
 // Whether a frame goes with the event that has not the fields of OPEN.
 fn brings_unlisted(e: Event, f: OpenFrame) -> bool
-    ensures { λ r. ⌜ r ≡ framed e && not (headListed (f .head)) ⌝ }
+    ensures { λ r. ⌜ r ≡ hasFrame e && not (headListed (f .head)) ⌝ }
 {
     let head = f.head;
     if open_frame::head_listed(head) {
@@ -119,12 +121,12 @@ fn answers(s: State, e: Event, f: OpenFrame) -> Stepped
     ensures { λ r. ⌜ r ≡ stepOf f e s ⌝ }
 {
     if brings_unlisted(e, f) {
-        return refuses(s, Refusal::Unlisted);
+        return refused(s, Refusal::Unlisted);
     }
     if !keeps_rules(s) {
-        return refuses(s, Refusal::Rules);
+        return refused(s, Refusal::Rules);
     }
-    xl_takes::takes(s, e, f)
+    xl_core::takes(s, e, f)
 }
 
 // The same, put together anew.
@@ -177,8 +179,8 @@ pub fn step(state: State, event: Event, frame: OpenFrame) -> Stepped
 }
 
 // Why a frame was not read; a frame that was read has no such reason, and nobody asks.
-fn why(read: OpenRead) -> Refusal
-    ensures { λ r. ⌜ r ≡ reason read ⌝ }
+fn reason(read: OpenRead) -> Refusal
+    ensures { λ r. ⌜ r ≡ steps.reason read ⌝ }
 {
     match read {
         OpenRead::Frame(_) => Refusal::Unlisted,
@@ -193,13 +195,13 @@ pub fn receive(state: State, bytes: &[u8]) -> Stepped
 {
     let read = open_frame::read_open(bytes);
     let OpenRead::Frame(f) = read else {
-        return refuses(state, why(read));
+        return refused(state, reason(read));
     };
     step(state, Event::Line(Primitive::Open), f)
 }
 
-fn waits(a: Seen) -> LinkStatus
-    ensures { λ r. ⌜ r ≡ waiting a ⌝ }
+fn waiting(a: Seen) -> LinkStatus
+    ensures { λ r. ⌜ r ≡ link.waiting a ⌝ }
 {
     match a {
         Seen::Never => LinkStatus::Partial,
@@ -219,10 +221,10 @@ fn in_phase(p: Phase, a: Seen) -> LinkStatus
         Phase::Xl0 => LinkStatus::Ready,
         Phase::Xl1 => LinkStatus::Partial,
         Phase::Xl2 => LinkStatus::Partial,
-        Phase::Xl3 => waits(a),
+        Phase::Xl3 => waiting(a),
         Phase::Xl4 => LinkStatus::Partial,
         Phase::Xl5 => LinkStatus::Partial,
-        Phase::Xl6 => waits(a),
+        Phase::Xl6 => waiting(a),
         Phase::Xl7 => LinkStatus::Connected,
         Phase::Xl8 => LinkStatus::Connected,
         Phase::Xl9 => LinkStatus::Partial,

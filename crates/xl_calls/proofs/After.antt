@@ -32,8 +32,8 @@ use Rattle.xl_parts.specs.Parts.{Effect, ready, packed, done}
 use Rattle.xl_rows.specs.Table.{takes}
 use Rattle.xl_rows.specs.Sentences.{link, known, BacksOff, Sentences}
 use Rattle.xl_rows.proofs.Sentences as rows
-use Rattle.xl.specs.Rules.{rules}
-use Rattle.xl.specs.Steps.{causes, framed, refused, stepOf}
+use Rattle.xl.specs.Rules.{keepsRules}
+use Rattle.xl.specs.Steps.{causes, hasFrame, refused, stepOf}
 use Rattle.xl_calls.specs.Links.{Call, event, callOf, run, isDone}
 use Rattle.xl_calls.specs.Met.{Met, saidIn, frameIn, noted, met, transmitted, aipMet, openMet, breakSent, breakForwarded, blockedMet, closeMet, sendCloseMet}
 use Rattle.xl_calls.specs.After.{after, history, filled, answers, Answers, Crossed, Remembered, Connected, in7, in8}
@@ -59,9 +59,9 @@ does f e s =
     (λ k q. absurd (never (ap isDone q))) (causes f e s) (done (takes f e s))
     (λ off q. placed (takes f e s))
 
-module _ (s : State) (keeps : rules s ≡ true) where
+module _ (s : State) (keeps : keepsRules s ≡ true) where
   -- an event is taken if it brings no frame, or one with fields as in OPEN
-  pub taken : (f : OpenFrame) (e : Event) → framed e && not (headListed (f .head)) ≡ false → stepOf f e s ≡ done (takes f e s)
+  pub taken : (f : OpenFrame) (e : Event) → hasFrame e && not (headListed (f .head)) ≡ false → stepOf f e s ≡ done (takes f e s)
   unfolding stepOf
   taken f e fields = sym (unrefused (refused s) (done (takes f e s)) (causes f e s) (fields, (ap not keeps, tt)))
 
@@ -69,11 +69,11 @@ module _ (s : State) (keeps : rules s ≡ true) where
   disabled f = taken f Event.Disable refl
 
   -- where the table does x, so does the step
-  steps : (f : OpenFrame) (e : Event) → framed e && not (headListed (f .head)) ≡ false → (x : Effect) → takes f e s ≡ x → stepOf f e s ≡ answers (x .state) (x .actions)
+  steps : (f : OpenFrame) (e : Event) → hasFrame e && not (headListed (f .head)) ≡ false → (x : Effect) → takes f e s ≡ x → stepOf f e s ≡ answers (x .state) (x .actions)
   steps f e fields x q = taken f e fields ∙ ap done q ∙ placed x
 
   -- and what holds of it
-  holds : (P : Effect → Type 0) (f : OpenFrame) (e : Event) → framed e && not (headListed (f .head)) ≡ false → P (takes f e s) → Answers P (stepOf f e s)
+  holds : (P : Effect → Type 0) (f : OpenFrame) (e : Event) → hasFrame e && not (headListed (f .head)) ≡ false → P (takes f e s) → Answers P (stepOf f e s)
   holds P f e fields p = record { effect = takes f e s; does = p; is = steps f e fields (takes f e s) refl }
 
 -- one call more
@@ -92,14 +92,14 @@ module _ (cs : List Call) where
   abbrev n : ℕ
   n = now .count
 
-  keeps : rules now ≡ true
+  keeps : keepsRules now ≡ true
   keeps = kept cs ready ready-keeps
 
   -- the step is that of the table in a state that is spelled out
-  spelled : (s : State) → now ≡ s → (f : OpenFrame) (e : Event) → framed e && not (headListed (f .head)) ≡ false → (x : Effect) → takes f e s ≡ x → stepOf f e now ≡ answers (x .state) (x .actions)
+  spelled : (s : State) → now ≡ s → (f : OpenFrame) (e : Event) → hasFrame e && not (headListed (f .head)) ≡ false → (x : Effect) → takes f e s ≡ x → stepOf f e now ≡ answers (x .state) (x .actions)
   spelled s is f e fields x q = steps now keeps f e fields x (ap (λ (s : State). takes f e s) is ∙ q)
 
-  spelled-by : (s : State) → now ≡ s → (P : Effect → Type 0) (f : OpenFrame) (e : Event) → framed e && not (headListed (f .head)) ≡ false → P (takes f e s) → Answers P (stepOf f e now)
+  spelled-by : (s : State) → now ≡ s → (P : Effect → Type 0) (f : OpenFrame) (e : Event) → hasFrame e && not (headListed (f .head)) ≡ false → P (takes f e s) → Answers P (stepOf f e now)
   spelled-by s is P f e fields p = holds now keeps P f e fields (subst⁻¹ (λ (s : State). P (takes f e s)) is p)
 
   in-phase : (p : Phase) → now .phase ≡ p → now ≡ link p m n
@@ -146,7 +146,7 @@ module _ (cs : List Call) where
     said = rows.sentences f m n
 
     -- an event in the state p, with no frame
-    in-state : (p : Phase) → now .phase ≡ p → (e : Event) → framed e ≡ false → (x : Effect) → takes f e (link p m n) ≡ x → stepOf f e now ≡ answers (x .state) (x .actions)
+    in-state : (p : Phase) → now .phase ≡ p → (e : Event) → hasFrame e ≡ false → (x : Effect) → takes f e (link p m n) ≡ x → stepOf f e now ≡ answers (x .state) (x .actions)
     in-state p at e mute x q = spelled (link p m n) (in-phase p at) f e (ap (λ (t : Bool). t && not (headListed (f .head))) mute) x q
 
     -- 01 XL.16

@@ -13,9 +13,9 @@ use Rattle.xl_parts.specs.declared.Held.the-variants.{Nothing, Frame}
 use Rattle.xl_parts.specs.declared.Memory.{Memory}
 use Rattle.xl_parts.specs.declared.State.{State}
 use Rattle.xl_parts.specs.declared.Stepped.{Stepped}
-use Rattle.xl_parts.specs.Parts.{Effect, forgets, remembering, entered}
+use Rattle.xl_parts.specs.Parts.{Effect}
 use Rattle.xl_parts.specs.Kinds.{Kind, kindOf, Said, saidBy}
-use Rattle.xl_rows.specs.Table.{stands, returns, crossed, heardIn6, rows, breakRows, rowsFor, takes, unexpected}
+use Rattle.xl_rows.specs.Table.{stands, comesBack, crossed, heardIn6, in6, rows, breakRows, rowsFor, takes, unexpected}
 use Rattle.xl_rows.specs.Sentences.{oneOf}
 use Rattle.xl_rows.proofs.Rows.{Every}
 use Rattle.xl_calls.specs.Links.{Call, callOf}
@@ -61,15 +61,15 @@ module _ (m : Memory) (n : ℕ) (f : OpenFrame) where
 
   crosses : (h : Held) (g : OpenFrame) → Leaves Xl6 (crossed h g (at Xl6))
   crosses Nothing g = refl
-  crosses (Frame t) g = by-test (Leaves Xl6) (stands (m .aip) t g) (λ q. refl) (λ q. by-test (Leaves Xl6) (returns g t) (λ r. refl) (λ r. refl))
+  crosses (Frame t) g = by-test (Leaves Xl6) (stands (m .aip) t g) (λ q. refl) (λ q. by-test (Leaves Xl6) (comesBack g t) (λ r. refl) (λ r. refl))
 
   -- the OPEN that XL5 remembered
   abbrev sent : State
-  sent = remembering forgets (entered Xl6 (at Xl5))
+  sent = in6 (at Xl5)
 
   crosses-in-5 : (h : Held) (g : OpenFrame) → Leaves Xl5 (crossed h g sent)
   crosses-in-5 Nothing g = refl
-  crosses-in-5 (Frame t) g = by-test (Leaves Xl5) (stands (m .aip) t g) (λ q. refl) (λ q. by-test (Leaves Xl5) (returns g t) (λ r. refl) (λ r. refl))
+  crosses-in-5 (Frame t) g = by-test (Leaves Xl5) (stands (m .aip) t g) (λ q. refl) (λ q. by-test (Leaves Xl5) (comesBack g t) (λ r. refl) (λ r. refl))
 
   hears-in-5 : (h : Held) → Leaves Xl5 (heardIn6 h sent)
   hears-in-5 Nothing = refl

@@ -31,9 +31,10 @@ use Rattle.xl_parts.specs.declared.Seen.the-variants.{Never}
 use Rattle.xl_parts.specs.declared.Memory.{Memory}
 use Rattle.xl_parts.specs.declared.State.{State}
 use Rattle.xl_parts.specs.declared.Stepped.{Stepped}
-use Rattle.xl_parts.specs.Parts.{Effect, forgets, remembering, entered, ready, done, first}
+use Rattle.xl_parts.specs.Parts.{Effect, ready, done, first}
 use Rattle.xl_parts.specs.Kinds.{kindOf, Said, saidBy}
-use Rattle.xl_rows.specs.Table.{stands, returns, crossed, heardIn6, rows, breakRows, rowsFor, takes, unexpected}
+use Rattle.xl_rows.specs.Table as table
+use Rattle.xl_rows.specs.Table.{stands, comesBack, crossed, heardIn6, rows, breakRows, rowsFor, takes, unexpected}
 use Rattle.xl_rows.specs.Sentences.{link}
 use Rattle.xl_rows.proofs.Rows.{Every}
 use Rattle.xl.specs.Steps.{causes, refused, opened, stepOf, receiveOf}
@@ -153,7 +154,7 @@ module _ (m : Memory) (n : ℕ) (f : OpenFrame) (ms : List Met) where
   -- the OPEN that XL5 remembered, at Sent
   module _ (h : Knows Xl5 m ms) where
     abbrev six : State
-    six = remembering forgets (entered Xl6 (at Xl5))
+    six = table.in6 (at Xl5)
 
     abbrev Behind : Effect → Type 0
     Behind x = After Xl5 (Own Notice.Sent) (first (Action.Send (Message.ArbStatus Wait.Device) ∷ []) x)
@@ -164,7 +165,7 @@ module _ (m : Memory) (n : ℕ) (f : OpenFrame) (ms : List Met) where
 
     crosses5 : (t : Held) (g : OpenFrame) → Behind (crossed t g six)
     crosses5 Nothing g = waits
-    crosses5 (Frame t) g = by-test Behind (stands (m .aip) t g) (λ q. waits) (λ q. by-test Behind (returns g t) (λ r. forwards-open _ _ _ (h .close)) (λ r. (h .close, refl)))
+    crosses5 (Frame t) g = by-test Behind (stands (m .aip) t g) (λ q. waits) (λ q. by-test Behind (comesBack g t) (λ r. forwards-open _ _ _ (h .close)) (λ r. (h .close, refl)))
 
     hears5 : (o : Held) → Behind (heardIn6 o six)
     hears5 Nothing = waits
@@ -188,7 +189,7 @@ module _ (m : Memory) (n : ℕ) (f : OpenFrame) (ms : List Met) where
 
   crosses6 : (t : Held) → Knows Xl6 m ms → After Xl6 (Line Primitive.Open) (crossed t f (at Xl6))
   crosses6 Nothing h = h
-  crosses6 (Frame t) h = by-test (After Xl6 (Line Primitive.Open)) (stands (m .aip) t f) (λ q. h) (λ q. by-test (After Xl6 (Line Primitive.Open)) (returns f t) (λ r. forwards-open _ _ _ (h .close)) (λ r. (h .close, refl)))
+  crosses6 (Frame t) h = by-test (After Xl6 (Line Primitive.Open)) (stands (m .aip) t f) (λ q. h) (λ q. by-test (After Xl6 (Line Primitive.Open)) (comesBack f t) (λ r. forwards-open _ _ _ (h .close)) (λ r. (h .close, refl)))
 
   in6 : (e : Event) → Knows Xl6 m ms → After Xl6 e (takes f e (at Xl6))
   in6 (Line Primitive.Open) h = crosses6 (m .held) h

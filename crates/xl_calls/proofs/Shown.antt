@@ -17,7 +17,7 @@ use Rattle.xl_parts.specs.declared.Answer.{Answer}
 use Rattle.xl_parts.specs.declared.Stepped.{Stepped}
 use Rattle.xl_parts.specs.Parts.{Effect, packed, done}
 use Rattle.xl_rows.specs.Table.{takes}
-use Rattle.xl.specs.Rules.{isFrame, rules}
+use Rattle.xl.specs.Rules.{isFrame, keepsRules}
 use Rattle.xl.specs.Steps.{causes, refused, stepOf}
 use Rattle.xl_calls.specs.Links.{Call, callOf, run, brought, frames, names, isNone, some, listOf, gapless, Each, Shows, In, here, there}
 use Rattle.xl_calls.proofs.Walk.{Good}
@@ -63,7 +63,7 @@ no-gap (a ∷ b ∷ []) e = gaps (a ∷ b ∷ []) (Action.None ∷ Action.None �
 no-gap (a ∷ b ∷ c ∷ []) e = gaps (a ∷ b ∷ c ∷ []) (Action.None ∷ []) e refl
 no-gap (a ∷ b ∷ c ∷ d ∷ more) e = gaps (a ∷ b ∷ c ∷ d ∷ []) [] (front (a ∷ b ∷ c ∷ d ∷ []) more e) refl
 
-module _ (s : State) (keeps : rules s ≡ true) where
+module _ (s : State) (keeps : keepsRules s ≡ true) where
   pub gapless-call : (c : Call) → gapless (listOf (callOf c s .actions)) ≡ true
   gapless-call = by-call (λ (c : Call) (r : Stepped). gapless (listOf (r .actions)) ≡ true) s (λ c k. refl) (λ c f e off from. by f e (took Fielded f e s (good-of s keeps) (fields-given f e s off)))
     where

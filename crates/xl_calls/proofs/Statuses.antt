@@ -14,7 +14,7 @@ use Rattle.xl_parts.specs.declared.State.{State}
 use Rattle.xl_parts.specs.declared.LinkStatus.{LinkStatus}
 use Rattle.xl_rows.specs.Sentences.{oneOf}
 use Rattle.xl_rows.proofs.Sentences.{by-phase}
-use Rattle.xl.specs.Rules.{rules}
+use Rattle.xl.specs.Rules.{keepsRules}
 use Rattle.xl.specs.Status.{waiting, inPhase, statusCauses, statusOf}
 use Rattle.xl_parts.specs.Parts.{ready}
 use Rattle.xl_calls.specs.Links.{Call}
@@ -34,7 +34,7 @@ not-blocked (Latest Wait.Device) off = refl
 waits-by : (a : Seen) → Waits (waiting a) a
 waits-by a = record { blocked = λ e. ap waiting e; other = not-blocked a }
 
-module _ (s : State) (keeps : rules s ≡ true) where
+module _ (s : State) (keeps : keepsRules s ≡ true) where
   answered : statusOf s ≡ inPhase (s .phase) (s .memory .aip)
   unfolding statusOf
   answered = sym (unrefused LinkStatus.Refused (inPhase (s .phase) (s .memory .aip)) (statusCauses s) (ap not keeps, tt))

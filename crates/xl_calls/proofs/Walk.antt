@@ -21,11 +21,11 @@ use Rattle.xl_parts.specs.declared.Held.{Held}
 use Rattle.xl_parts.specs.declared.Held.the-variants.{Nothing, Frame}
 use Rattle.xl_parts.specs.declared.Memory.{Memory}
 use Rattle.xl_parts.specs.declared.State.{State}
-use Rattle.xl_parts.specs.Parts.{Effect, breaks, forgets, remembering, hold, entered, entry, stay, to, first}
+use Rattle.xl_parts.specs.Parts.{Effect, holding, breaking, entered, onEntry, stay, to, first}
 use Rattle.xl_parts.specs.Kinds.{kindOf, same, Said, saidBy}
-use Rattle.xl_rows.specs.Table.{stands, returns, backoff, broken, crossed, heardIn6, remembered, sentIn5, closing, timedOut, forwarded, joined, rows, breakRows, rowsFor, isListed, takes, unexpected}
+use Rattle.xl_rows.specs.Table.{stands, comesBack, backoff, broken, crossed, heardIn6, remembered, in6, sentIn5, sendCloseIn7, timedOut, forwarded, joined, rows, breakRows, rowsFor, isListed, takes, unexpected}
 use Rattle.xl.specs.Rules.{isFrame, works}
-use Rattle.xl.specs.Steps.{framed}
+use Rattle.xl.specs.Steps.{hasFrame}
 use Rattle.xl_calls.specs.Links.{names, isNone, some, Each}
 use Rattle.xl_rows.proofs.Rows.{Every, found}
 
@@ -54,7 +54,7 @@ module _ (Q : OpenFrame → Type 0) (s : State) (good : Good Q s) where
   breaks-off = record { held = good .held; heard = good .heard; holds = impossible; counts = refl; shows = impossible; few = lit≤ tt; real = refl }
 
   backs-off : (f g : OpenFrame) → Q g → Sound Q (s .count) 3 (backoff f g s)
-  backs-off f g q = by-test (Sound Q (s .count) 3) (returns g f)
+  backs-off f g q = by-test (Sound Q (s .count) 3) (comesBack g f)
       (λ r. record { held = q; heard = good .heard; holds = λ e. refl; counts = refl; shows = λ e. refl; few = lit≤ tt; real = refl })
       (λ r. record { held = q; heard = good .heard; holds = λ e. refl; counts = refl; shows = λ e. refl; few = lit≤ tt; real = refl })
 
@@ -72,7 +72,7 @@ module _ (Q : OpenFrame → Type 0) (s : State) (good : Good Q s) where
 more : {Q : OpenFrame → Type 0} {count : ℕ} {x : Effect} → Sound Q count 3 x → Sound Q count 4 x
 more p = let l = p .few in record { held = p .held; heard = p .heard; holds = p .holds; counts = p .counts; shows = p .shows; few = omega (arith, l); real = p .real }
 
-module _ (Q : OpenFrame → Type 0) (f : OpenFrame) (ev : Event) (s : State) (good : Good Q s) (given : framed ev ≡ true → Q f) where
+module _ (Q : OpenFrame → Type 0) (f : OpenFrame) (ev : Event) (s : State) (good : Good Q s) (given : hasFrame ev ≡ true → Q f) where
   abbrev Right : Effect → Type 0
   Right = Sound Q (s .count) 4
 
@@ -115,15 +115,15 @@ module _ (Q : OpenFrame → Type 0) (f : OpenFrame) (ev : Event) (s : State) (go
     forwards = by-test Right (s .memory .broke) (λ t. more (breaks-off Q s good)) (λ t. kept3)
 
     sent : Right (sentIn5 s)
-    sent = first-of (remembers Q (remembering forgets (entered Xl6 s)) (record { held = good .held; heard = tt; holds = λ e. frame }) (s .memory) (good .heard))
+    sent = first-of (remembers Q (in6 s) (record { held = good .held; heard = tt; holds = λ e. frame }) (s .memory) (good .heard))
       where
-        first-of : {x : Effect} → Sound Q (s .count) 3 x → Right (first (entry Xl6) x)
+        first-of : {x : Effect} → Sound Q (s .count) 3 x → Right (first (onEntry Xl6) x)
         first-of p = let l = p .few in record { held = p .held; heard = p .heard; holds = p .holds; counts = p .counts; shows = p .shows; few = omega (arith, l); real = p .real }
 
-  held1 : Q f → Right (to Xl1 [] (hold f s))
+  held1 : Q f → Right (to Xl1 [] (holding f s))
   held1 q = record { held = q; heard = good .heard; holds = λ e. refl; counts = refl; shows = λ e. refl; few = lit≤ tt; real = refl }
 
-  held5 : Q f → Right (to Xl5 (Action.Transmit Primitive.Open ∷ []) (hold f s))
+  held5 : Q f → Right (to Xl5 (Action.Transmit Primitive.Open ∷ []) (holding f s))
   held5 q = record { held = q; heard = tt; holds = λ e. refl; counts = refl; shows = λ e. refl; few = lit≤ tt; real = refl }
 
   -- the state stays, and its memory changes but for the frames
@@ -138,14 +138,14 @@ module _ (Q : OpenFrame → Type 0) (f : OpenFrame) (ev : Event) (s : State) (go
     real = ap (λ (t : Bool). t || false) real;
   }
 
-  breaks-noted : Right (stay [] (remembering breaks s))
+  breaks-noted : Right (stay [] (breaking s))
   breaks-noted = record { held = good .held; heard = good .heard; holds = good .holds; counts = refl; shows = impossible; few = lit≤ tt; real = refl }
 
   connects : (a : Action) → names a ≡ false → isNone a ≡ false → Right (to Xl7 (a ∷ []) s)
   connects a mute real = record { held = good .held; heard = good .heard; holds = impossible; counts = refl; shows = λ e. impossible (subst (λ (t : Bool). t || false ≡ true) mute e); few = lit≤ tt; real = ap (λ (t : Bool). t || false) real }
 
-  closes-in-7 : Right (closing s)
-  closes-in-7 = by-test Right (s .memory .close)
+  send-close-in-7 : Right (sendCloseIn7 s)
+  send-close-in-7 = by-test Right (s .memory .close)
       (λ t. idle (Action.Transmit Primitive.Close ∷ []) refl (lit≤ tt) refl)
       (λ t. record { held = good .held; heard = good .heard; holds = impossible; counts = refl; shows = impossible; few = lit≤ tt; real = refl })
 
@@ -206,7 +206,7 @@ module _ (Q : OpenFrame → Type 0) (f : OpenFrame) (ev : Event) (s : State) (go
       ),
     ),
   )
-  walk Xl7 e x = ((λ m. notes _ _ refl refl refl refl), ((λ m. closes-in-7), tt))
+  walk Xl7 e x = ((λ m. notes _ _ refl refl refl refl), ((λ m. send-close-in-7), tt))
   walk Xl8 e x = ((λ m. idle _ refl (lit≤ tt) refl), tt)
   walk Xl9 e x = ((λ m. out), tt)
   walk Xl10 e x = tt

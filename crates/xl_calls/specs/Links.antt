@@ -16,7 +16,7 @@ use Rattle.xl_parts.specs.declared.State.{State}
 use Rattle.xl_parts.specs.declared.Answer.{Answer}
 use Rattle.xl_parts.specs.declared.Stepped.{Stepped}
 use Rattle.xl_rows.specs.Table.{isListed}
-use Rattle.xl.specs.Steps.{framed, stepOf, receiveOf}
+use Rattle.xl.specs.Steps.{hasFrame, stepOf, receiveOf}
 
 -- a call: an event with the frame beside it, or an OPEN received as bytes
 pub data Call : Type 0 where
@@ -59,7 +59,7 @@ broughtRead (OpenRead.Frame f) = f ∷ []
 broughtRead (OpenRead.Refused k) = []
 
 abbrev pub brought : Call → List OpenFrame
-brought (event e f) = cond (framed e) (f ∷ []) []
+brought (event e f) = cond (hasFrame e) (f ∷ []) []
 brought (bytes b) = broughtRead (readOpen b)
 
 -- those of some calls, the last call's first

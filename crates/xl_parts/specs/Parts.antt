@@ -1,5 +1,4 @@
 -- Document 01, 'XL': what a link remembers, what entering a state clears and does, and the form of a row's effect. Assumes nothing.
-use Prim.Native.Nat.{ℕ}
 use mathlib.Core.Bool.{Bool, true, false}
 use mathlib.Core.List.{List, [], _∷_, _++_}
 use Rattle.open_frame.specs.declared.OpenFrame.{OpenFrame}
@@ -16,19 +15,6 @@ use Rattle.xl_parts.specs.declared.Memory.{Memory}
 use Rattle.xl_parts.specs.declared.State.{State}
 use Rattle.xl_parts.specs.declared.Answer.{Answer}
 use Rattle.xl_parts.specs.declared.Stepped.{Stepped}
-
-abbrev pub phaseNumber : Phase → ℕ
-phaseNumber Phase.Xl0 = 0
-phaseNumber Phase.Xl1 = 1
-phaseNumber Phase.Xl2 = 2
-phaseNumber Phase.Xl3 = 3
-phaseNumber Phase.Xl4 = 4
-phaseNumber Phase.Xl5 = 5
-phaseNumber Phase.Xl6 = 6
-phaseNumber Phase.Xl7 = 7
-phaseNumber Phase.Xl8 = 8
-phaseNumber Phase.Xl9 = 9
-phaseNumber Phase.Xl10 = 10
 
 abbrev pub nothing : Memory
 nothing = record { held = Held.Nothing; heard = Held.Nothing; aip = Seen.Never; broke = false; close = false; blocked = false }
@@ -64,41 +50,57 @@ forgets m = record { held = m .held; heard = Held.Nothing; aip = m .aip; broke =
 abbrev pub remembering : (Memory → Memory) → State → State
 remembering change s = record { phase = s .phase; memory = change (s .memory); count = s .count }
 
-abbrev pub hold : OpenFrame → State → State
-hold f s = remembering (holds f) s
+-- s with one thing more in its memory
+abbrev pub holding : OpenFrame → State → State
+holding f s = remembering (holds f) s
+
+abbrev pub hearing : OpenFrame → State → State
+hearing f s = remembering (hears f) s
+
+abbrev pub seeing : Wait → State → State
+seeing k s = remembering (sees k) s
+
+abbrev pub breaking : State → State
+breaking s = remembering breaks s
+
+abbrev pub closing : State → State
+closing s = remembering closes s
+
+abbrev pub blocking : Bool → State → State
+blocking b s = remembering (blocks b) s
 
 -- 01 XL.10: Entering XL0 clears all memory but the count; XL1 and XL2, BREAK and AIP memory; XL5, these and OPEN's.
 -- a stay in XL1 begins with no Arbitrating
-abbrev pub clearing : Phase → Memory → Memory
-clearing Phase.Xl0 m = nothing
-clearing Phase.Xl1 m = record { held = m .held; heard = m .heard; aip = Seen.Never; broke = false; close = m .close; blocked = false }
-clearing Phase.Xl2 m = record { held = m .held; heard = m .heard; aip = Seen.Never; broke = false; close = m .close; blocked = m .blocked }
-clearing Phase.Xl3 m = m
-clearing Phase.Xl4 m = m
-clearing Phase.Xl5 m = record { held = m .held; heard = Held.Nothing; aip = Seen.Never; broke = false; close = m .close; blocked = m .blocked }
-clearing Phase.Xl6 m = m
-clearing Phase.Xl7 m = m
-clearing Phase.Xl8 m = m
-clearing Phase.Xl9 m = m
-clearing Phase.Xl10 m = m
+abbrev pub cleared : Phase → Memory → Memory
+cleared Phase.Xl0 m = nothing
+cleared Phase.Xl1 m = record { held = m .held; heard = m .heard; aip = Seen.Never; broke = false; close = m .close; blocked = false }
+cleared Phase.Xl2 m = record { held = m .held; heard = m .heard; aip = Seen.Never; broke = false; close = m .close; blocked = m .blocked }
+cleared Phase.Xl3 m = m
+cleared Phase.Xl4 m = m
+cleared Phase.Xl5 m = record { held = m .held; heard = Held.Nothing; aip = Seen.Never; broke = false; close = m .close; blocked = m .blocked }
+cleared Phase.Xl6 m = m
+cleared Phase.Xl7 m = m
+cleared Phase.Xl8 m = m
+cleared Phase.Xl9 m = m
+cleared Phase.Xl10 m = m
 
 abbrev pub entered : Phase → State → State
-entered p s = record { phase = p; memory = clearing p (s .memory); count = s .count }
+entered p s = record { phase = p; memory = cleared p (s .memory); count = s .count }
 
 -- 01 XL.11: XL1, on entry RequestPath, AIP(NORMAL).
 -- 01 XL.36: XL9 and XL10 transmit BREAK on entry.
-abbrev pub entry : Phase → List Action
-entry Phase.Xl0 = []
-entry Phase.Xl1 = Action.RequestPath false ∷ Action.Transmit (Primitive.Aip Wait.Normal) ∷ []
-entry Phase.Xl2 = []
-entry Phase.Xl3 = []
-entry Phase.Xl4 = []
-entry Phase.Xl5 = []
-entry Phase.Xl6 = Action.Send (Message.ArbStatus Wait.Device) ∷ []
-entry Phase.Xl7 = []
-entry Phase.Xl8 = []
-entry Phase.Xl9 = Action.Break BreakAction.Transmit ∷ []
-entry Phase.Xl10 = Action.Break BreakAction.Transmit ∷ []
+abbrev pub onEntry : Phase → List Action
+onEntry Phase.Xl0 = []
+onEntry Phase.Xl1 = Action.RequestPath false ∷ Action.Transmit (Primitive.Aip Wait.Normal) ∷ []
+onEntry Phase.Xl2 = []
+onEntry Phase.Xl3 = []
+onEntry Phase.Xl4 = []
+onEntry Phase.Xl5 = []
+onEntry Phase.Xl6 = Action.Send (Message.ArbStatus Wait.Device) ∷ []
+onEntry Phase.Xl7 = []
+onEntry Phase.Xl8 = []
+onEntry Phase.Xl9 = Action.Break BreakAction.Transmit ∷ []
+onEntry Phase.Xl10 = Action.Break BreakAction.Transmit ∷ []
 
 -- what a row does: the state that it leaves, and its actions in order
 pub record Effect : Type 0 where
@@ -111,7 +113,7 @@ stay acts s = record { state = s; actions = acts }
 
 -- another state is entered: what the row names, then the actions on entry
 abbrev pub to : Phase → List Action → State → Effect
-to p acts s = record { state = entered p s; actions = acts ++ entry p }
+to p acts s = record { state = entered p s; actions = acts ++ onEntry p }
 
 -- some actions before those of an effect
 abbrev pub first : List Action → Effect → Effect
@@ -129,12 +131,12 @@ packed (a ∷ b ∷ []) = four a b Action.None Action.None
 packed (a ∷ b ∷ c ∷ []) = four a b c Action.None
 packed (a ∷ b ∷ c ∷ d ∷ more) = four a b c d
 
--- one action before the others
+-- one action ahead of the others
 abbrev pub pushed : Action → Actions → Actions
 pushed a acts = four a (acts .first) (acts .second) (acts .third)
 
-abbrev pub before : Action → Stepped → Stepped
-before a r = record { answer = r .answer; state = r .state; actions = pushed a (r .actions) }
+abbrev pub ahead : Action → Stepped → Stepped
+ahead a r = record { answer = r .answer; state = r .state; actions = pushed a (r .actions) }
 
 abbrev pub done : Effect → Stepped
 done e = record { answer = Answer.Done; state = e .state; actions = packed (e .actions) }

@@ -1,6 +1,7 @@
 // Document 01, 'XL': what an expander link hears, does and remembers, and how it enters a state.
 ghost use mathlib.Core.Path.{_≡_};
-ghost use Rattle.xl_parts.specs.Parts.{nothing, ready, clearing, entered, entry, packed, stay, to, before, done};
+ghost use Rattle.xl_parts.specs.Parts as parts;
+ghost use Rattle.xl_parts.specs.Parts.{onEntry, packed, done};
 ghost use mathlib.Core.List.{[], _∷_};
 use open_frame::OpenFrame;
 use refusals::Refusal;
@@ -215,8 +216,8 @@ pub enum LinkStatus {
     Refused(Refusal),
 }
 
-fn forgotten() -> Memory
-    ensures { λ r. ⌜ r ≡ nothing ⌝ }
+fn nothing() -> Memory
+    ensures { λ r. ⌜ r ≡ parts.nothing ⌝ }
 {
     Memory {
         held: Held::Nothing,
@@ -229,23 +230,23 @@ fn forgotten() -> Memory
 }
 
 // XL0 with nothing remembered and nothing counted.
-pub fn unlinked() -> State
-    ensures { λ r. ⌜ r ≡ ready ⌝ }
+pub fn ready() -> State
+    ensures { λ r. ⌜ r ≡ parts.ready ⌝ }
 {
     State {
         phase: Phase::Xl0,
-        memory: forgotten(),
+        memory: nothing(),
         count: 0,
     }
 }
 
 fn cleared(m: Memory, p: Phase) -> Memory
-    ensures { λ r. ⌜ r ≡ clearing p m ⌝ }
+    ensures { λ r. ⌜ r ≡ parts.cleared p m ⌝ }
 {
     let held = m.held;
     let heard = m.heard;
     match p {
-        Phase::Xl0 => forgotten(),
+        Phase::Xl0 => nothing(),
         Phase::Xl1 => Memory {
             held,
             heard,
@@ -274,8 +275,8 @@ fn cleared(m: Memory, p: Phase) -> Memory
     }
 }
 
-fn enter(s: State, p: Phase) -> State
-    ensures { λ r. ⌜ r ≡ entered p s ⌝ }
+fn entered(s: State, p: Phase) -> State
+    ensures { λ r. ⌜ r ≡ parts.entered p s ⌝ }
 {
     let memory = s.memory;
     State {
@@ -320,7 +321,7 @@ fn two(a: Action, b: Action) -> Actions
 
 // What a link does on entering p.
 fn on_entry(p: Phase) -> Actions
-    ensures { λ r. ⌜ r ≡ packed (entry p) ⌝ }
+    ensures { λ r. ⌜ r ≡ packed (onEntry p) ⌝ }
 {
     match p {
         Phase::Xl1 => two(
@@ -335,8 +336,8 @@ fn on_entry(p: Phase) -> Actions
 }
 
 // The state stays, and nothing is done.
-pub fn stays(s: State) -> Stepped
-    ensures { λ r. ⌜ r ≡ done (stay [] s) ⌝ }
+pub fn stay(s: State) -> Stepped
+    ensures { λ r. ⌜ r ≡ done (parts.stay [] s) ⌝ }
 {
     Stepped {
         answer: Answer::Done,
@@ -346,19 +347,19 @@ pub fn stays(s: State) -> Stepped
 }
 
 // The link enters p.
-pub fn goes(s: State, p: Phase) -> Stepped
-    ensures { λ r. ⌜ r ≡ done (to p [] s) ⌝ }
+pub fn to(s: State, p: Phase) -> Stepped
+    ensures { λ r. ⌜ r ≡ done (parts.to p [] s) ⌝ }
 {
     Stepped {
         answer: Answer::Done,
-        state: enter(s, p),
+        state: entered(s, p),
         actions: on_entry(p),
     }
 }
 
-// An action before the others; a fifth is dropped.
-pub fn after(a: Action, r: Stepped) -> Stepped
-    ensures { λ q. ⌜ q ≡ before a r ⌝ }
+// An action ahead of the others; a fifth is dropped.
+pub fn ahead(a: Action, r: Stepped) -> Stepped
+    ensures { λ q. ⌜ q ≡ parts.ahead a r ⌝ }
 {
     let answer = r.answer;
     let state = r.state;

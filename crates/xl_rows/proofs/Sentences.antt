@@ -30,7 +30,7 @@ use Rattle.xl_parts.specs.declared.Seen.the-variants.{Never, Latest}
 use Rattle.xl_parts.specs.declared.Memory.{Memory}
 use Rattle.xl_parts.specs.declared.State.{State}
 use Rattle.xl_parts.specs.Parts.{Effect, first, stay}
-use Rattle.xl_rows.specs.Table.{returns, backoff, crossed, takes, unexpected}
+use Rattle.xl_rows.specs.Table.{comesBack, backoff, crossed, takes, unexpected}
 use Rattle.xl_rows.specs.Sentences.{oneOf, link, known, gives, listedIn, OneOfEight, no, bad, wrong, rate, protocol, blocked, busy, retry, BacksOff, Crosses, Sentences}
 
 -- what holds of each state holds of any
@@ -130,7 +130,7 @@ module _ (f g : OpenFrame) where
     pub backs : (a : Seen) → Back (first lead (backoff f g (at a)))
     backs a = record {
       reverses = λ d r. rw (eq-eqb _ _ d, eq-eqb _ _ r);
-      retries = λ off. rw (not-true (returns g f) (unless (both (equal (g .head .destination) (f .head .source)) (equal (g .head .rate) (f .head .rate))) .1 off));
+      retries = λ off. rw (not-true (comesBack g f) (unless (both (equal (g .head .destination) (f .head .source)) (equal (g .head .rate) (f .head .rate))) .1 off));
     }
 
     -- with no AIP seen the test is priority's alone

@@ -28,7 +28,8 @@ use Rattle.xl_parts.specs.declared.Seen.{Seen}
 use Rattle.xl_parts.specs.declared.Seen.the-variants.{Never, Latest}
 use Rattle.xl_parts.specs.declared.Memory.{Memory}
 use Rattle.xl_parts.specs.declared.State.{State}
-use Rattle.xl_parts.specs.Parts.{Effect, phaseNumber}
+use Rattle.xl_parts.specs.Parts.{Effect}
+use Rattle.xl_numbers.specs.States.{phaseNumber}
 
 abbrev pub oneOf : Phase → List Phase → Bool
 oneOf p [] = false

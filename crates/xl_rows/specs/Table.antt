@@ -28,7 +28,7 @@ use Rattle.xl_parts.specs.declared.Seen.{Seen}
 use Rattle.xl_parts.specs.declared.Seen.the-variants.{Never, Latest}
 use Rattle.xl_parts.specs.declared.Memory.{Memory}
 use Rattle.xl_parts.specs.declared.State.{State}
-use Rattle.xl_parts.specs.Parts.{Effect, hears, sees, breaks, closes, blocks, forgets, remembering, hold, entered, entry, stay, to, first}
+use Rattle.xl_parts.specs.Parts.{Effect, forgets, remembering, holding, hearing, seeing, breaking, closing, blocking, entered, onEntry, stay, to, first}
 use Rattle.xl_parts.specs.Kinds.{Kind, kindOf, same, Said, saidBy, waitIn, rejectIn, denialIn, arbitrationIn}
 
 -- a row: events of one kind, and what they do while `given` holds
@@ -94,25 +94,25 @@ timedOut s = cond (s .memory .blocked) (stay (RequestPath true ∷ []) s) (stay 
 abbrev pub forwarded : State → Effect
 forwarded s = cond (s .memory .broke) (broken s) (to Xl3 [] s)
 
-abbrev pub seen : Seen → Bool
-seen Never = false
-seen (Latest k) = true
+abbrev pub wasSeen : Seen → Bool
+wasSeen Never = false
+wasSeen (Latest k) = true
 
 -- g answers f on f's own path: its destination and rate equal source and rate of f
-abbrev pub returns : OpenFrame → OpenFrame → Bool
-returns g f = eqb (g .head .destination) (f .head .source) && eqb (g .head .rate) (f .head .rate)
+abbrev pub comesBack : OpenFrame → OpenFrame → Bool
+comesBack g f = eqb (g .head .destination) (f .head .source) && eqb (g .head .rate) (f .head .rate)
 
 -- 01 XL.32: Otherwise it is held; if its destination and rate equal source and rate of the frame transmitted: BackoffReversePath of it, XL2 with no SendOpen; else BackoffRetry, XL1.
 -- f is the frame transmitted, g the OPEN received
 abbrev pub backoff : OpenFrame → OpenFrame → State → Effect
 backoff f g s =
-    cond (returns g f)
-    (to Xl2 (Send Message.BackoffReversePath ∷ []) (hold g s))
-    (to Xl1 (Send Message.BackoffRetry ∷ []) (hold g s))
+    cond (comesBack g f)
+    (to Xl2 (Send Message.BackoffReversePath ∷ []) (holding g s))
+    (to Xl1 (Send Message.BackoffRetry ∷ []) (holding g s))
 
 -- 01 XL.31: OPEN: if no AIP was seen and it isn't of higher priority than the frame transmitted, nothing.
 abbrev pub stands : Seen → OpenFrame → OpenFrame → Bool
-stands aip f g = not (seen aip) && not (higherThan g f)
+stands aip f g = not (wasSeen aip) && not (higherThan g f)
 
 -- the frame transmitted is the one held; a state that keeps the rules holds one here
 abbrev pub crossed : Held → OpenFrame → State → Effect
@@ -127,19 +127,23 @@ heardIn6 (Frame g) s = crossed (s .memory .held) g s
 abbrev pub remembered : Memory → State → Effect
 remembered m s = cond (m .broke) (broken s) (heardIn6 (m .heard) s)
 
+-- XL6, with BREAK and OPEN forgotten
+abbrev pub in6 : State → State
+in6 s = remembering forgets (entered Xl6 s)
+
 abbrev pub sentIn5 : State → Effect
-sentIn5 s = first (entry Xl6) (remembered (s .memory) (remembering forgets (entered Xl6 s)))
+sentIn5 s = first (onEntry Xl6) (remembered (s .memory) (in6 s))
 
 -- 01 XL.34: SendClose: transmit CLOSE; XL0 if CLOSE was remembered, else XL8.
-abbrev pub closing : State → Effect
-closing s = cond (s .memory .close) (to Xl0 (Transmit Primitive.Close ∷ []) s) (to Xl8 (Transmit Primitive.Close ∷ []) s)
+abbrev pub sendCloseIn7 : State → Effect
+sendCloseIn7 s = cond (s .memory .close) (to Xl0 (Transmit Primitive.Close ∷ []) s) (to Xl8 (Transmit Primitive.Close ∷ []) s)
 
 -- 01 XL.8: XL0: OPEN received: held; to XL1.
 -- 01 XL.9: SendOpen(f): hold f, transmit OPEN f, to XL5.
 abbrev pub xl0 : OpenFrame → State → List Row
 xl0 f s =
-    (Line Primitive.Open ⇒ to Xl1 [] (hold f s))
-    ∷ (Router Message.SendOpen ⇒ to Xl5 (Transmit Primitive.Open ∷ []) (hold f s))
+    (Line Primitive.Open ⇒ to Xl1 [] (holding f s))
+    ∷ (Router Message.SendOpen ⇒ to Xl5 (Transmit Primitive.Open ∷ []) (holding f s))
     ∷ []
 
 -- 01 XL.12: ArbWon: SendOpen, XL2.
@@ -152,7 +156,7 @@ xl1 d a s =
     (Manager Confirmation.ArbWon ⇒ to Xl2 (Send Message.SendOpen ∷ []) s)
     ∷ (Manager Confirmation.ArbLost ⇒ to Xl0 [] s)
     ∷ (Manager (Confirmation.ArbReject d) ⇒ to Xl4 (Transmit (Primitive.OpenReject (rejectFor d)) ∷ []) s)
-    ∷ (Manager (Confirmation.Arbitrating a) ⇒ stay (Transmit (Primitive.Aip (waitFor a)) ∷ []) (remembering (blocks (isBlocked a)) s))
+    ∷ (Manager (Confirmation.Arbitrating a) ⇒ stay (Transmit (Primitive.Aip (waitFor a)) ∷ []) (blocking (isBlocked a) s))
     ∷ (Own Notice.PathTimer ⇒ timedOut s)
     ∷ []
 
@@ -167,11 +171,11 @@ xl2 s = (Own Notice.Forwarded ⇒ forwarded s) ∷ []
 -- 01 XL.24: BackoffReversePath(f): hold f, transmit it, XL5.
 abbrev pub xl3 : OpenFrame → Wait → Reject → State → List Row
 xl3 f w k s =
-    (Router (Message.ArbStatus w) ⇒ stay (Transmit (Primitive.Aip w) ∷ []) (remembering (sees w) s))
+    (Router (Message.ArbStatus w) ⇒ stay (Transmit (Primitive.Aip w) ∷ []) (seeing w s))
     ∷ (Router Message.OpenAccept ⇒ to Xl7 (Transmit Primitive.OpenAccept ∷ []) s)
     ∷ (Router (Message.OpenReject k) ⇒ to Xl0 (Transmit (Primitive.OpenReject k) ∷ []) s)
     ∷ (Router Message.BackoffRetry ⇒ to Xl1 [] s)
-    ∷ (Router Message.BackoffReversePath ⇒ to Xl5 (Transmit Primitive.Open ∷ []) (hold f s))
+    ∷ (Router Message.BackoffReversePath ⇒ to Xl5 (Transmit Primitive.Open ∷ []) (holding f s))
     ∷ []
 
 -- 01 XL.25: XL4: Sent: XL0.
@@ -181,7 +185,7 @@ xl4 s = (Own Notice.Sent ⇒ to Xl0 [] s) ∷ []
 -- 01 XL.26: XL5: OPEN (the latest) and BREAK are remembered.
 -- 01 XL.27
 abbrev pub xl5 : OpenFrame → State → List Row
-xl5 f s = (Line Primitive.Open ⇒ stay [] (remembering (hears f) s)) ∷ (Own Notice.Sent ⇒ sentIn5 s) ∷ []
+xl5 f s = (Line Primitive.Open ⇒ stay [] (hearing f s)) ∷ (Own Notice.Sent ⇒ sentIn5 s) ∷ []
 
 -- 01 XL.28: XL6: OPEN_ACCEPT: OpenAccept, XL7.
 -- 01 XL.29: OPEN_REJECT: OpenReject of its kind, XL0.
@@ -192,7 +196,7 @@ abbrev pub xl6 : OpenFrame → Wait → Reject → State → List Row
 xl6 f w k s =
     (Line Primitive.OpenAccept ⇒ to Xl7 (Send Message.OpenAccept ∷ []) s)
     ∷ (Line (Primitive.OpenReject k) ⇒ to Xl0 (Send (Message.OpenReject k) ∷ []) s)
-    ∷ (Line (Primitive.Aip w) ⇒ stay (Send (Message.ArbStatus w) ∷ []) (remembering (sees w) s))
+    ∷ (Line (Primitive.Aip w) ⇒ stay (Send (Message.ArbStatus w) ∷ []) (seeing w s))
     ∷ (Line Primitive.Open ⇒ crossed (s .memory .held) f s)
     ∷ []
 
@@ -200,8 +204,8 @@ xl6 f w k s =
 -- 01 XL.34
 abbrev pub xl7 : State → List Row
 xl7 s =
-    (Line Primitive.Close ⇒ stay (Send Message.SendClose ∷ []) (remembering closes s) unless s .memory .close)
-    ∷ (Router Message.SendClose ⇒ closing s)
+    (Line Primitive.Close ⇒ stay (Send Message.SendClose ∷ []) (closing s) unless s .memory .close)
+    ∷ (Router Message.SendClose ⇒ sendCloseIn7 s)
     ∷ []
 
 -- 01 XL.35: XL8: CLOSE: SendClose, XL0.
@@ -241,10 +245,10 @@ joined s = (Break BreakEvent.Received ⇒ broken s) ∷ (Break BreakEvent.Routed
 abbrev pub breakRows : Phase → State → List Row
 breakRows Xl0 s = []
 breakRows Xl1 s = (Break BreakEvent.Received ⇒ to Xl9 [] s) ∷ []
-breakRows Xl2 s = (Break BreakEvent.Received ⇒ stay [] (remembering breaks s)) ∷ []
+breakRows Xl2 s = (Break BreakEvent.Received ⇒ stay [] (breaking s)) ∷ []
 breakRows Xl3 s = joined s
 breakRows Xl4 s = []
-breakRows Xl5 s = (Break BreakEvent.Received ⇒ stay [] (remembering breaks s)) ∷ []
+breakRows Xl5 s = (Break BreakEvent.Received ⇒ stay [] (breaking s)) ∷ []
 breakRows Xl6 s = joined s
 breakRows Xl7 s = joined s
 breakRows Xl8 s = joined s

@@ -22,11 +22,11 @@ abbrev μ-loop : tie.MeasureT-loop
 kinds-requires : tie.Need-kinds-requires Inv-loop μ-loop
 kinds-requires c κs = search needs
 
-unlinked-requires : tie.Need-unlinked-requires Inv-loop μ-loop
-unlinked-requires c κs = search needs
+ready-requires : tie.Need-ready-requires Inv-loop μ-loop
+ready-requires c κs = search needs
 
 loop-holds : tie.Need-loop-holds Inv-loop μ-loop
-loop-holds c = (omega arith, rw (c .unlinked .ensures))
+loop-holds c = (omega arith, rw (c .ready .ensures))
 
 shared-slice-read-n : tie.Need-shared-slice-read-n Inv-loop μ-loop
 shared-slice-read-n c = search needs
@@ -73,7 +73,7 @@ bench-links-spec =
     Inv-loop
     μ-loop
     kinds-requires
-    unlinked-requires
+    ready-requires
     loop-holds
     shared-slice-read-n
     cast-at

@@ -6,8 +6,8 @@ use Rattle.bench_links.proofs.turn.Tie as tie
 step-requires : tie.Need-step-requires
 step-requires c κs = search needs
 
-phase-requires : tie.Need-phase-requires
-phase-requires c κs = search needs
+phase-number-requires : tie.Need-phase-number-requires
+phase-number-requires c κs = search needs
 
 weight-requires : tie.Need-weight-requires
 weight-requires c κs = search needs
@@ -25,14 +25,14 @@ mix-requires : tie.Need-mix-requires
 mix-requires c κs = search needs
 
 returns : tie.Need-returns
-returns c = rw (c .mix .ensures, c .before .weight4 .ensures, c .before .before .weight3 .ensures, c .before .before .before .weight2 .ensures, c .before .before .before .before .weight .ensures, c .before .before .before .before .before .phase .ensures, c .before .before .before .before .before .before .before .before .step .ensures)
+returns c = rw (c .mix .ensures, c .before .weight4 .ensures, c .before .before .weight3 .ensures, c .before .before .before .weight2 .ensures, c .before .before .before .before .weight .ensures, c .before .before .before .before .before .phase-number .ensures, c .before .before .before .before .before .before .before .before .step .ensures)
 
 pub turn-spec : {M : Type 1} → statement M
 turn-spec =
     tie.close
     (tie.spec
     step-requires
-    phase-requires
+    phase-number-requires
     weight-requires
     weight-requires-2
     weight-requires-3

@@ -1,4 +1,4 @@
--- `flags_rule`, `listed` and `stamps_rule` promise three tests of `presentRule`, and the other two stand as there. Assumes nothing.
+-- `flags_rule`, `head_listed` and `stamps_rule` promise three tests of `presentRule`, and the other two stand as there. Assumes nothing.
 use Rattle.port_rules.specs.Rules.{presentRule}
 use borrow.Author.Needs.{needs}
 use Rattle.port_rules.proofs.present_rule.Statement.{statement}

@@ -7,22 +7,22 @@ use Rattle.xl.proofs.answers.Tie as tie
 brings-unlisted-requires : tie.Need-brings-unlisted-requires
 brings-unlisted-requires c κs = search needs
 
-refuses-requires : tie.Need-refuses-requires
-refuses-requires c κs = search needs
+refused-requires : tie.Need-refused-requires
+refused-requires c κs = search needs
 
 returns : tie.Need-returns
 unfolding stepOf
-returns c = rw (c .refuses .ensures, ← c .before .before .brings-unlisted .ensures, c .before .if1 .taken)
+returns c = rw (c .refused .ensures, ← c .before .before .brings-unlisted .ensures, c .before .if1 .taken)
 
 keeps-rules-requires : tie.Need-keeps-rules-requires
 keeps-rules-requires c κs = search needs
 
-refuses-requires-2 : tie.Need-refuses-requires-2
-refuses-requires-2 c κs = search needs
+refused-requires-2 : tie.Need-refused-requires-2
+refused-requires-2 c κs = search needs
 
 returns-2 : tie.Need-returns-2
 unfolding stepOf
-returns-2 c = rw (c .refuses2 .ensures, ← c .before .before .keeps-rules .ensures, ← c .before .before .before .before .brings-unlisted .ensures, c .before .if2 .taken, c .before .before .before .if1 .left)
+returns-2 c = rw (c .refused2 .ensures, ← c .before .before .keeps-rules .ensures, ← c .before .before .before .before .brings-unlisted .ensures, c .before .if2 .taken, c .before .before .before .if1 .left)
 
 takes-requires : tie.Need-takes-requires
 takes-requires c κs = search needs
@@ -36,10 +36,10 @@ answers-spec =
     tie.close
     (tie.spec
     brings-unlisted-requires
-    refuses-requires
+    refused-requires
     returns
     keeps-rules-requires
-    refuses-requires-2
+    refused-requires-2
     returns-2
     takes-requires
     returns-3)

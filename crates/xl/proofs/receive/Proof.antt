@@ -13,15 +13,15 @@ enum-known-read c = search needs
 enum-told : tie.Need-enum-told
 enum-told c = search needs
 
-why-requires : tie.Need-why-requires
-why-requires c κs = search needs
+reason-requires : tie.Need-reason-requires
+reason-requires c κs = search needs
 
-refuses-requires : tie.Need-refuses-requires
-refuses-requires c κs = search needs
+refused-requires : tie.Need-refused-requires
+refused-requires c κs = search needs
 
 returns : tie.Need-returns
 unfolding receiveOf
-returns c = rw (c .refuses .ensures, c .before .why .ensures, ← c .before .before .before .before .read-open .ensures, c .before .before .enum-told .given .1)
+returns c = rw (c .refused .ensures, c .before .reason .ensures, ← c .before .before .before .before .read-open .ensures, c .before .before .enum-told .given .1)
 
 step-requires : tie.Need-step-requires
 step-requires c κs = search needs
@@ -37,8 +37,8 @@ receive-spec =
     read-open-requires
     enum-known-read
     enum-told
-    why-requires
-    refuses-requires
+    reason-requires
+    refused-requires
     returns
     step-requires
     returns-2)

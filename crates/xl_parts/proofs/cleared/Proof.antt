@@ -2,7 +2,7 @@
 use mathlib.Core.List.{[], _∷_}
 use borrow.Author.Needs.{needs}
 use Rattle.laws.proofs.Rest.{rest}
-use Rattle.xl_parts.specs.Parts.{clearing}
+use Rattle.xl_parts.specs.Parts.{cleared}
 use Rattle.xl_parts.specs.declared.Phase.{Phase}
 use Rattle.xl_parts.proofs.Phase as phase
 use Rattle.xl_parts.proofs.cleared.Statement.{statement}
@@ -11,8 +11,8 @@ use Rattle.xl_parts.proofs.cleared.Tie as tie
 enum-told : tie.Need-enum-told
 enum-told c = search needs
 
-forgotten-requires : tie.Need-forgotten-requires
-forgotten-requires c κs = search needs
+nothing-requires : tie.Need-nothing-requires
+nothing-requires c κs = search needs
 
 enum-told-2 : tie.Need-enum-told-2
 enum-told-2 c = search needs
@@ -24,7 +24,7 @@ enum-told-4 : tie.Need-enum-told-4
 enum-told-4 c = search needs
 
 returns : tie.Need-returns
-returns c = rw (c .forgotten .ensures, c .before .enum-told .given .1)
+returns c = rw (c .nothing .ensures, c .before .enum-told .given .1)
 
 returns-2 : tie.Need-returns-2
 returns-2 c = rw (c .enum-told2 .given .1)
@@ -36,14 +36,14 @@ returns-4 : tie.Need-returns-4
 returns-4 c = rw (c .enum-told4 .given .1)
 
 returns-5 : tie.Need-returns-5
-returns-5 c = rest phase.enum (λ (p : Phase). clearing p (c .before .args .m)) (c .before .args .m) (0 ∷ 1 ∷ 2 ∷ 5 ∷ []) (search depth 40) (c .before .args .p) (c .match .keys5)
+returns-5 c = rest phase.enum (λ (p : Phase). cleared p (c .before .args .m)) (c .before .args .m) (0 ∷ 1 ∷ 2 ∷ 5 ∷ []) (search depth 40) (c .before .args .p) (c .match .keys5)
 
 pub cleared-spec : {M : Type 1} → statement M
 cleared-spec =
     tie.close
     (tie.spec
     enum-told
-    forgotten-requires
+    nothing-requires
     enum-told-2
     enum-told-3
     enum-told-4

@@ -3,7 +3,7 @@ use mathlib.Core.List.{[], _∷_}
 use mathlib.Core.Path.{_∙_}
 use borrow.Author.Needs.{needs}
 use Rattle.laws.proofs.Rest.{rest}
-use Rattle.xl_parts.specs.Parts.{entry, packed}
+use Rattle.xl_parts.specs.Parts.{onEntry, packed}
 use Rattle.xl_parts.specs.declared.Phase.{Phase}
 use Rattle.xl_parts.proofs.Phase as phase
 use Rattle.xl_parts.proofs.on_entry.Statement.{statement}
@@ -49,7 +49,7 @@ returns-4 : tie.Need-returns-4
 returns-4 c = rw (c .one3 .ensures, c .before .enum-told4 .given .1)
 
 returns-5 : tie.Need-returns-5
-returns-5 c = c .none .ensures ∙ rest phase.enum (λ (p : Phase). packed (entry p)) (packed []) (1 ∷ 6 ∷ 9 ∷ 10 ∷ []) (search depth 40) (c .before .before .args .p) (c .before .match .keys5)
+returns-5 c = c .none .ensures ∙ rest phase.enum (λ (p : Phase). packed (onEntry p)) (packed []) (1 ∷ 6 ∷ 9 ∷ 10 ∷ []) (search depth 40) (c .before .before .args .p) (c .before .match .keys5)
 
 pub on-entry-spec : {M : Type 1} → statement M
 on-entry-spec =
