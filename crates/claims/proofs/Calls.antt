@@ -2,6 +2,7 @@
 -- the source. What is shown of every such outcome is shown of what the call does. Assumes nothing.
 use Prim.Native.Nat.{ℕ}
 use mathlib.Core.List.{List}
+use mathlib.Core.Path.{_≡_}
 use borrow.Fn.Kinds as kinds
 use contract.Lifetimes
 use denote.Triple.Clauses
@@ -67,6 +68,18 @@ pub record Outcome (n : ℕ) (ps : List (kinds.PK n)) (r : kinds.RK n) (post : k
   pub answer : kinds.resT r lifetimes .Denot
   pub exit : Clauses.AtExit (kinds.endedOf n ps r) lifetimes
   pub met : post lifetimes args answer exit
+
+-- a function of n lifetimes and parameters ps that asks pre of them takes anything
+abbrev pub Anything : (n : ℕ) (ps : List (kinds.PK n)) → kinds.In n ps → Type 0
+Anything n ps pre = (κs : Lifetimes.Lfts n) (a : kinds.Dens κs ps) → pre κs a
+
+-- a function of n lifetimes, parameters ps and result r has one outcome: its answer, and what `left` reads of the lent at exit
+abbrev pub One : (n : ℕ) (ps : List (kinds.PK n)) (r : kinds.RK n) {L : Type 0} → ((κs : Lifetimes.Lfts n) → Clauses.AtExit (kinds.endedOf n ps r) κs → L) → kinds.Out n ps r → Type 0
+One n ps r left post = (κs : Lifetimes.Lfts n) (a : kinds.Dens κs ps) (x y : kinds.resT r κs .Denot) (s t : Clauses.AtExit (kinds.endedOf n ps r) κs) → post κs a x s → post κs a y t → (x ≡ y) × (left κs s ≡ left κs t)
+
+-- nothing lent can change
+abbrev pub none : (n : ℕ) (ps : List (kinds.PK n)) (r : kinds.RK n) (κs : Lifetimes.Lfts n) → Clauses.AtExit (kinds.endedOf n ps r) κs → Unit {0}
+none n ps r κs s = tt
 
 abbrev pub ReadOpen : Type 0
 ReadOpen = Outcome 1 read-open-of.ps read-open-of.r read-open.Post
