@@ -42,8 +42,8 @@ use Rattle.transfer.proofs.Transfer.nexus.Kinds as nexus-of
 use Rattle.transfer.proofs.Transfer.nexus.Reads as nexus
 use Rattle.transfer.proofs.Transfer.cancel.Kinds as cancel-of
 use Rattle.transfer.proofs.Transfer.cancel.Reads as cancel
-use Rattle.transfer.proofs.Transfer.taken.Kinds as taken-of
-use Rattle.transfer.proofs.Transfer.taken.Reads as taken
+use Rattle.transfer.proofs.Transfer.keeps_rules.Kinds as keeps-rules-of
+use Rattle.transfer.proofs.Transfer.keeps_rules.Reads as keeps-rules
 use Rattle.send.proofs.next_frame.Kinds as next-frame-of
 use Rattle.send.proofs.next_frame.Reads as next-frame
 use Rattle.lines.proofs.read_number.Kinds as read-number-of
@@ -135,8 +135,8 @@ Nexus = Outcome 0 nexus-of.ps nexus-of.r nexus.Post
 abbrev pub Cancel : Type 0
 Cancel = Outcome 0 cancel-of.ps cancel-of.r cancel.Post
 
-abbrev pub Taken : Type 0
-Taken = Outcome 0 taken-of.ps taken-of.r taken.Post
+abbrev pub KeepsRules : Type 0
+KeepsRules = Outcome 0 keeps-rules-of.ps keeps-rules-of.r keeps-rules.Post
 
 abbrev pub NextFrame : Type 0
 NextFrame = Outcome 2 next-frame-of.ps next-frame-of.r next-frame.Post

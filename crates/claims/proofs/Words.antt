@@ -8,7 +8,7 @@ use mathlib.Core.Logic.{_↔_}
 use mathlib.Core.Path.{_≡_, sym, ap, subst, _∙_}
 use lib.ListN.{replicate}
 use Rattle.refusals.specs.declared.Refusal.{Refusal}
-use Rattle.transfer.specs.Rules.{before}
+use Rattle.transfer.specs.Rules.{unstarted}
 use Rattle.transfer.specs.Steps.{limit, unfinished}
 use Rattle.transfer.specs.Calls as plainly
 use Rattle.transfer.specs.Examples.{inRanges, pastRanges}
@@ -28,7 +28,7 @@ use Rattle.claims.proofs.Balance.{Run, now, past, added, next}
 
 -- B, N, M and R of the last START that was taken
 abbrev request : Run → Asked
-request r = asked limit (r .calls) before unasked
+request r = asked limit (r .calls) unstarted unasked
 
 -- what the history says of the frames
 abbrev seen : Run → View
@@ -50,8 +50,8 @@ pub record Words : Type 0 where
   pub asked : (r : Run) → askedOf (now r) ≡ request r
   -- 01 READ.1
   -- START takes the least and the largest numbers, and is refused with 3 one past each
-  pub takes : map (λ (c : plainly.Call). plainly.stepOf limit c before .answer) inRanges ≡ replicate 5 Answer.Ok
-  pub takes-no-more : map (λ (c : plainly.Call). plainly.stepOf limit c before .answer) pastRanges ≡ replicate 6 (Answer.Refused Refusal.Rules)
+  pub takes : map (λ (c : plainly.Call). plainly.stepOf limit c unstarted .answer) inRanges ≡ replicate 5 Answer.Ok
+  pub takes-no-more : map (λ (c : plainly.Call). plainly.stepOf limit c unstarted .answer) pastRanges ≡ replicate 6 (Answer.Refused Refusal.Rules)
   -- 01 TEXT.2: of a call that is taken, each word exactly if
   -- 01 READ.5 01 READ.8 01 READ.9
   -- ok: START; or an ACK in an attempt with no NAK reported, while frames are unanswered or the last frame does not end at B+N

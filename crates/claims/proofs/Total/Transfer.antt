@@ -1,8 +1,8 @@
 -- What the functions ask of their arguments holds of all of them: the read transfer, the next-frame call and the bench over them. Assumes nothing.
 use Rattle.transfer.proofs.Transfer.unstarted.Kinds as unstarted-of
 use Rattle.transfer.proofs.Transfer.unstarted.Reads as unstarted
-use Rattle.transfer.proofs.Transfer.taken.Kinds as taken-of
-use Rattle.transfer.proofs.Transfer.taken.Reads as taken
+use Rattle.transfer.proofs.Transfer.keeps_rules.Kinds as keeps-rules-of
+use Rattle.transfer.proofs.Transfer.keeps_rules.Reads as keeps-rules
 use Rattle.transfer.proofs.Transfer.frame_length.Kinds as frame-length-of
 use Rattle.transfer.proofs.Transfer.frame_length.Reads as frame-length
 use Rattle.transfer.proofs.Transfer.refused.Kinds as refused-of
@@ -39,7 +39,7 @@ use Rattle.claims.proofs.Calls.{Anything}
 
 pub record Transfer : Type 2 where
   pub unstarted : Anything 0 unstarted-of.ps unstarted.Pre
-  pub taken : Anything 0 taken-of.ps taken.Pre
+  pub keeps-rules : Anything 0 keeps-rules-of.ps keeps-rules.Pre
   pub frame-length : Anything 0 frame-length-of.ps frame-length.Pre
   pub refused : Anything 0 refused-of.ps refused.Pre
   pub start : Anything 0 start-of.ps start.Pre
@@ -60,7 +60,7 @@ pub record Transfer : Type 2 where
 pub transfer : Transfer
 transfer = record {
   unstarted = λ κs a. tt;
-  taken = λ κs a. tt;
+  keeps-rules = λ κs a. tt;
   frame-length = λ κs a. tt;
   refused = λ κs a. tt;
   start = λ κs a. tt;

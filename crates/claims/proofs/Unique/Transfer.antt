@@ -8,8 +8,8 @@ use denote.Ref.{now}
 use denote.Triple.Clauses
 use Rattle.transfer.proofs.Transfer.unstarted.Kinds as unstarted-of
 use Rattle.transfer.proofs.Transfer.unstarted.Reads as unstarted
-use Rattle.transfer.proofs.Transfer.taken.Kinds as taken-of
-use Rattle.transfer.proofs.Transfer.taken.Reads as taken
+use Rattle.transfer.proofs.Transfer.keeps_rules.Kinds as keeps-rules-of
+use Rattle.transfer.proofs.Transfer.keeps_rules.Reads as keeps-rules
 use Rattle.transfer.proofs.Transfer.frame_length.Kinds as frame-length-of
 use Rattle.transfer.proofs.Transfer.frame_length.Reads as frame-length
 use Rattle.transfer.proofs.Transfer.refused.Kinds as refused-of
@@ -56,7 +56,7 @@ bench-calls-left κs s = now (behind9 s .0)
 
 pub record Transfer : Type 2 where
   pub unstarted : One 0 unstarted-of.ps unstarted-of.r (none 0 unstarted-of.ps unstarted-of.r) unstarted.Post
-  pub taken : One 0 taken-of.ps taken-of.r (none 0 taken-of.ps taken-of.r) taken.Post
+  pub keeps-rules : One 0 keeps-rules-of.ps keeps-rules-of.r (none 0 keeps-rules-of.ps keeps-rules-of.r) keeps-rules.Post
   pub frame-length : One 0 frame-length-of.ps frame-length-of.r (none 0 frame-length-of.ps frame-length-of.r) frame-length.Post
   pub refused : One 0 refused-of.ps refused-of.r (none 0 refused-of.ps refused-of.r) refused.Post
   pub start : One 0 start-of.ps start-of.r (none 0 start-of.ps start-of.r) start.Post
@@ -77,7 +77,7 @@ pub record Transfer : Type 2 where
 pub transfer : Transfer
 transfer = record {
   unstarted = λ κs a x y s t p q. (p ∙ sym q, refl);
-  taken = λ κs a x y s t p q. (p ∙ sym q, refl);
+  keeps-rules = λ κs a x y s t p q. (p ∙ sym q, refl);
   frame-length = λ κs a x y s t p q. (p ∙ sym q, refl);
   refused = λ κs a x y s t p q. (p ∙ sym q, refl);
   start = λ κs a x y s t p q. (p ∙ sym q, refl);
