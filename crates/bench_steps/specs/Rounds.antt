@@ -2,7 +2,7 @@
 use Prim.Native.Nat.{ℕ, zero, suc}
 use mathlib.Core.List.{List}
 use mathlib.Core.Path.{_≡_}
-use Rattle.transfer.specs.Rules.{before}
+use Rattle.transfer.specs.Rules.{unstarted}
 use Rattle.transfer.specs.Steps.{limit, startStep, frameStep, ackStep}
 use Rattle.transfer.specs.declared.Transfer.{Transfer}
 use Rattle.transfer.specs.declared.Stepped.{Stepped}
@@ -14,7 +14,7 @@ times f zero a = a
 times f (suc k) a = f (times f k a)
 
 abbrev pub startWith : ℕ → ℕ → ℕ → ℕ → Stepped
-startWith b n m r = startStep limit b n m r before
+startWith b n m r = startStep limit b n m r unstarted
 
 -- the state that START leaves
 abbrev pub startedWith : ℕ → ℕ → ℕ → ℕ → Transfer

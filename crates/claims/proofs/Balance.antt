@@ -7,7 +7,7 @@ use mathlib.Core.List.{List, [], _∷_, _++_}
 use mathlib.Core.Path.{_≡_, refl}
 use lib.ListN.{length}
 use native.Mathlib.Omega.{arith}
-use Rattle.transfer.specs.Rules.{endOf, before, frames as framesIn}
+use Rattle.transfer.specs.Rules.{endOf, unstarted, frames as framesIn}
 use Rattle.transfer.specs.Steps.{limit, unfinished}
 use Rattle.transfer.specs.Demand.{Demand3}
 use Rattle.transfer.specs.History.{Frame, Entry, sent, isRefused, view, firstResent, framesSent, Covered}
@@ -34,10 +34,10 @@ pub record Run : Type 0 where
 
 -- the transfer before the last call, its history, what the last call adds to it, and what it answers
 abbrev pub now : Run → Transfer
-now r = run limit (r .calls) before
+now r = run limit (r .calls) unstarted
 
 abbrev pub past : Run → List Entry
-past r = frames (history limit (r .calls) before [])
+past r = frames (history limit (r .calls) unstarted [])
 
 abbrev pub added : Run → List Entry
 added r = frames (entriesOf limit (r .last) (now r))
@@ -77,7 +77,7 @@ pub record Balance : Type 0 where
   pub addressed : (r : Run) (destination source tag : ℕ) (body out : List ℕ) → r .last ≡ Call.next destination source tag body out → isRefused (next r .answer) ≡ false → Addressed (outputOf limit (r .last) (now r)) (length body) destination source tag (now r .read)
   -- what the depth computation lost: with the bytes of one image lent to each next-frame call at its offset, at "delivered" the
   -- payloads that the DATA reader finds in the ACKed frames' bytes cover the request, byte for byte of that image
-  pub image : (r : Run) (image : List ℕ) → AllFromImage image limit (r .calls) before → FromImage image (r .last) (now r) → next r .answer ≡ Answer.Done → (x : ℕ) → now r .offset ≤ x → x < endOf (now r) → Shown image x (view (entriesOf limit (r .last) (now r) ++ history limit (r .calls) before []) .acked)
+  pub image : (r : Run) (image : List ℕ) → AllFromImage image limit (r .calls) unstarted → FromImage image (r .last) (now r) → next r .answer ≡ Answer.Done → (x : ℕ) → now r .offset ≤ x → x < endOf (now r) → Shown image x (view (entriesOf limit (r .last) (now r) ++ history limit (r .calls) unstarted []) .acked)
   -- no stuck state: from every unfinished state some calls reach done
   pub unstuck : (s : Transfer) → plainly.Reachable limit s → unfinished (s .phase) ≡ true → plainly.Finishes limit s
   -- no endless sending: at most (R+1) times ⌈N/M⌉ frames go for one START

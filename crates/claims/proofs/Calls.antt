@@ -2,6 +2,7 @@
 -- the source. What is shown of every such outcome is shown of what the call does. Assumes nothing.
 use Prim.Native.Nat.{ℕ}
 use mathlib.Core.List.{List}
+use mathlib.Core.Path.{_≡_}
 use borrow.Fn.Kinds as kinds
 use contract.Lifetimes
 use denote.Triple.Clauses
@@ -41,8 +42,8 @@ use Rattle.transfer.proofs.Transfer.nexus.Kinds as nexus-of
 use Rattle.transfer.proofs.Transfer.nexus.Reads as nexus
 use Rattle.transfer.proofs.Transfer.cancel.Kinds as cancel-of
 use Rattle.transfer.proofs.Transfer.cancel.Reads as cancel
-use Rattle.transfer.proofs.Transfer.taken.Kinds as taken-of
-use Rattle.transfer.proofs.Transfer.taken.Reads as taken
+use Rattle.transfer.proofs.Transfer.keeps_rules.Kinds as keeps-rules-of
+use Rattle.transfer.proofs.Transfer.keeps_rules.Reads as keeps-rules
 use Rattle.send.proofs.next_frame.Kinds as next-frame-of
 use Rattle.send.proofs.next_frame.Reads as next-frame
 use Rattle.lines.proofs.read_number.Kinds as read-number-of
@@ -67,6 +68,18 @@ pub record Outcome (n : ℕ) (ps : List (kinds.PK n)) (r : kinds.RK n) (post : k
   pub answer : kinds.resT r lifetimes .Denot
   pub exit : Clauses.AtExit (kinds.endedOf n ps r) lifetimes
   pub met : post lifetimes args answer exit
+
+-- a function of n lifetimes and parameters ps that asks pre of them takes anything
+abbrev pub Anything : (n : ℕ) (ps : List (kinds.PK n)) → kinds.In n ps → Type 0
+Anything n ps pre = (κs : Lifetimes.Lfts n) (a : kinds.Dens κs ps) → pre κs a
+
+-- a function of n lifetimes, parameters ps and result r has one outcome: its answer, and what `left` reads of the lent at exit
+abbrev pub One : (n : ℕ) (ps : List (kinds.PK n)) (r : kinds.RK n) {L : Type 0} → ((κs : Lifetimes.Lfts n) → Clauses.AtExit (kinds.endedOf n ps r) κs → L) → kinds.Out n ps r → Type 0
+One n ps r left post = (κs : Lifetimes.Lfts n) (a : kinds.Dens κs ps) (x y : kinds.resT r κs .Denot) (s t : Clauses.AtExit (kinds.endedOf n ps r) κs) → post κs a x s → post κs a y t → (x ≡ y) × (left κs s ≡ left κs t)
+
+-- nothing lent can change
+abbrev pub none : (n : ℕ) (ps : List (kinds.PK n)) (r : kinds.RK n) (κs : Lifetimes.Lfts n) → Clauses.AtExit (kinds.endedOf n ps r) κs → Unit {0}
+none n ps r κs s = tt
 
 abbrev pub ReadOpen : Type 0
 ReadOpen = Outcome 1 read-open-of.ps read-open-of.r read-open.Post
@@ -122,8 +135,8 @@ Nexus = Outcome 0 nexus-of.ps nexus-of.r nexus.Post
 abbrev pub Cancel : Type 0
 Cancel = Outcome 0 cancel-of.ps cancel-of.r cancel.Post
 
-abbrev pub Taken : Type 0
-Taken = Outcome 0 taken-of.ps taken-of.r taken.Post
+abbrev pub KeepsRules : Type 0
+KeepsRules = Outcome 0 keeps-rules-of.ps keeps-rules-of.r keeps-rules.Post
 
 abbrev pub NextFrame : Type 0
 NextFrame = Outcome 2 next-frame-of.ps next-frame-of.r next-frame.Post

@@ -8,7 +8,7 @@ use Rattle.open_frame.specs.Priority.{higherThan}
 use Rattle.open_frame.specs.Wait.{waitOf}
 use Rattle.open_frame.specs.declared.Head.{Head}
 use Rattle.open_frame.specs.declared.OpenFrame.{OpenFrame}
-use Rattle.transfer.specs.Rules.{before}
+use Rattle.transfer.specs.Rules.{unstarted}
 use Rattle.transfer.specs.Steps.{limit}
 use Rattle.transfer.specs.Calls.{start, frame as framed, run}
 use Rattle.transfer.specs.Examples.{listing, listed, output}
@@ -57,14 +57,14 @@ pub record Examples : Type 0 where
   pub p9 : (s : State) (x : Failure) → reasonOf (x .why) ≡ Reason.PathwayBlocked → onPhy (s .list) (s .port) (x .phy) .pbc .0 ≡ 255 → let slot = phyAt (s .port) (x .phy) .slot in slot < 32 → (Free (getD (leave (openFailed x) s .list) slot blank) → ⊥) → getD (leave (openFailed x) s .list) slot blank .pbc .0 ≡ 255
   -- 01 READ.5 01 READ.8
   -- 01 EXAMPLE.5: P10 the listing.
-  pub p10 : listing limit 1 listed before ≡ output
+  pub p10 : listing limit 1 listed unstarted ≡ output
   -- 01 TEXT.6
   -- and of the text: the listing's bytes in give the listing's bytes out
   pub p10-text : outputOf listed-bytes ≡ printed
   -- the same, typed
   pub p10-bytes : outputOf typedInput ≡ typedOutput
   -- 01 EXAMPLE.6: P11 B 0, M 4, N 100, sixteen frames, no answer: balance 0, unanswered 16.
-  pub p11 : let s = run limit (start 0 100 4 0 ∷ replicate 16 framed) before in (s .balance ≡ 0) × (s .unanswered ≡ 16)
+  pub p11 : let s = run limit (start 0 100 4 0 ∷ replicate 16 framed) unstarted in (s .balance ≡ 0) × (s .unanswered ≡ 16)
 
 pub examples : Examples
 examples = record {

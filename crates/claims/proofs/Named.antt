@@ -1,5 +1,5 @@
--- What the calls of frames and of a transfer were given, lent and left, by name. The checker has a call's arguments as pairs within
--- pairs, in the order of its source; they are counted out here alone, C's as include/sonerwal.h lists them. Assumes nothing.
+-- What the calls of frames, of a transfer and of text were given, lent and left, by name. The checker has a call's arguments as pairs
+-- within pairs, in the order of its source; they are counted out here, C's as include/sonerwal.h lists them. Assumes nothing.
 use Prim.Native.Nat.{ℕ}
 use mathlib.Core.List.{List, [], _∷_, _++_, map}
 use lib.ListN.{getD}
@@ -14,8 +14,9 @@ use Rattle.transfer.specs.Calls.{Call, start}
 use Rattle.transfer.specs.declared.Stepped.{Stepped}
 use Rattle.send.specs.Send.{headOf}
 use Rattle.send.specs.Calls as sending
+use Rattle.runs.specs.declared.Run.{Run}
 use Rattle.sonerwal.specs.Face.{Read, Write, DataGiven, open9, data5, data6}
-use Rattle.claims.proofs.Calls.{ReadOpen, WriteOpen, ReadData, WriteData, SasOpenRead, SasOpenWrite, SasDataRead, SasDataWrite, Start, NextFrame}
+use Rattle.claims.proofs.Calls.{ReadOpen, WriteOpen, ReadData, WriteData, SasOpenRead, SasOpenWrite, SasDataRead, SasDataWrite, HigherThan, Start, NextFrame, ReadNumber, Feed, Close}
 
 -- three, six and nine of A, whatever R stands behind them
 abbrev pub first3 : {A R : Type 0} → A × (A × (A × R)) → List A
@@ -58,6 +59,13 @@ abbrev pub data-write : WriteData → Write Written DataGiven
 data-write c =
     let out = c .args .1 .1 .0 in
     record { given = record { head = c .args .0; body = now (c .args .1 .0) }; lent = now out; answer = c .answer; left = now (c .exit .1 .1 .0) }
+
+-- the one frame and the other, whose priorities are compared
+abbrev pub one-open : HigherThan → OpenFrame
+one-open c = c .args .0
+
+abbrev pub other-open : HigherThan → OpenFrame
+other-open c = c .args .1 .0
 
 -- ---- the calls from C
 
@@ -117,3 +125,34 @@ next-write c =
 
 abbrev pub next-call : NextFrame → sending.Call
 next-call c = let ns = next-numbers c in sending.Call.next (getD ns 0 0) (getD ns 1 0) (getD ns 2 0) (next-write c .given .body) (next-write c .lent)
+
+-- ---- the calls of text
+
+-- the bytes that are read as a number, and the largest that is taken
+abbrev pub digits : ReadNumber → List ℕ
+digits c = now (c .args .0)
+
+abbrev pub most : ReadNumber → ℕ
+most c = c .args .1 .0
+
+-- the run that is fed, the block, and the output as it was lent and as it is left
+abbrev pub feed-run : Feed → Run
+feed-run c = c .args .0
+
+abbrev pub feed-block : Feed → List ℕ
+feed-block c = now (c .args .1 .0)
+
+abbrev pub feed-lent : Feed → List ℕ
+feed-lent c = now (c .args .1 .1 .0)
+
+abbrev pub feed-left : Feed → List ℕ
+feed-left c = now (c .exit .1 .1 .0)
+
+abbrev pub close-run : Close → Run
+close-run c = c .args .0
+
+abbrev pub close-lent : Close → List ℕ
+close-lent c = now (c .args .1 .0)
+
+abbrev pub close-left : Close → List ℕ
+close-left c = now (c .exit .1 .0)

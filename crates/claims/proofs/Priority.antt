@@ -16,6 +16,7 @@ use Rattle.open_frame.specs.Priority.{priorityOf, higherThan}
 use Rattle.open_frame.specs.declared.OpenFrame.{OpenFrame}
 use Rattle.open_frame.proofs.Priority.{never-both, trans, one-is, neither}
 use Rattle.claims.proofs.Calls.{HigherThan}
+use Rattle.claims.proofs.Named.{one-open, other-open}
 
 -- AWT and source agree
 pub record Agree (f g : OpenFrame) : Type 0 where
@@ -28,30 +29,30 @@ Larger f g = (g .awt .0 < f .awt .0) ⊎ ((f .awt .0 ≡ g .awt .0) × (g .head 
 
 -- the two calls for two crossing OPENs
 abbrev Crossing : HigherThan → HigherThan → Type 0
-Crossing c d = (c .args .0 ≡ d .args .1 .0) × (c .args .1 .0 ≡ d .args .0)
+Crossing c d = (one-open c ≡ other-open d) × (other-open c ≡ one-open d)
 
 -- 01 OPEN.9
 pub record Priority : Type 0 where
   -- in document 01's words
-  pub exactly : (c : HigherThan) → Says (c .answer) (Larger (c .args .0) (c .args .1 .0))
+  pub exactly : (c : HigherThan) → Says (c .answer) (Larger (one-open c) (other-open c))
   -- of two crossing OPENs never both are of higher priority
   pub never : (c d : HigherThan) → Crossing c d → c .answer ≡ true → d .answer ≡ true → ⊥
   -- and exactly one is unless AWT and source agree
-  pub one : (c d : HigherThan) → Crossing c d → (Agree (c .args .0) (c .args .1 .0) → ⊥) → (c .answer ≡ true) ⊎ (d .answer ≡ true)
-  pub neither : (c : HigherThan) → Agree (c .args .0) (c .args .1 .0) → c .answer ≡ false
-  pub transitive : (c d e : HigherThan) → c .args .1 .0 ≡ d .args .0 → c .args .0 ≡ e .args .0 → d .args .1 .0 ≡ e .args .1 .0 → c .answer ≡ true → d .answer ≡ true → e .answer ≡ true
+  pub one : (c d : HigherThan) → Crossing c d → (Agree (one-open c) (other-open c) → ⊥) → (c .answer ≡ true) ⊎ (d .answer ≡ true)
+  pub neither : (c : HigherThan) → Agree (one-open c) (other-open c) → c .answer ≡ false
+  pub transitive : (c d e : HigherThan) → other-open c ≡ one-open d → one-open c ≡ one-open e → other-open d ≡ other-open e → c .answer ≡ true → d .answer ≡ true → e .answer ≡ true
 
 -- the other call compares the same frames the other way round
-swapped : (c d : HigherThan) → Crossing c d → d .answer ≡ higherThan (c .args .1 .0) (c .args .0)
+swapped : (c d : HigherThan) → Crossing c d → d .answer ≡ higherThan (other-open c) (one-open c)
 swapped c d e = d .met ∙ (λ i. higherThan (sym (e .1) i) (sym (e .0) i))
 
 agree : (f g : OpenFrame) → priorityOf f ≡ priorityOf g → Agree f g
 agree f g e = record { awt = ap (λ (l : List ℕ). getD l 0 0) e; source = ap (λ (l : List ℕ). getD l 1 0) e }
 
-one-of : (c d : HigherThan) → Crossing c d → (Agree (c .args .0) (c .args .1 .0) → ⊥) → Compared (priorityOf (c .args .0)) (priorityOf (c .args .1 .0)) → (c .answer ≡ true) ⊎ (d .answer ≡ true)
+one-of : (c d : HigherThan) → Crossing c d → (Agree (one-open c) (other-open c) → ⊥) → Compared (priorityOf (one-open c)) (priorityOf (other-open c)) → (c .answer ≡ true) ⊎ (d .answer ≡ true)
 one-of c d e off (above h) = inl (c .met ∙ h)
 one-of c d e off (below h) = inr (swapped c d e ∙ h)
-one-of c d e off (equal h) = absurd (off (agree (c .args .0) (c .args .1 .0) h))
+one-of c d e off (equal h) = absurd (off (agree (one-open c) (other-open c) h))
 
 exactly-so : (f g : OpenFrame) → Says (higherThan f g) (Larger f g)
 exactly-so f g =
@@ -61,9 +62,9 @@ exactly-so f g =
 
 pub priority : Priority
 priority = record {
-  exactly = λ c. subst⁻¹ (λ (t : Bool). Says t (Larger (c .args .0) (c .args .1 .0))) (c .met) (exactly-so (c .args .0) (c .args .1 .0));
-  never = λ c d e p q. never-both (c .args .0) (c .args .1 .0) (sym (c .met) ∙ p) (sym (swapped c d e) ∙ q);
-  one = λ c d e off. one-of c d e off (one-is (c .args .0) (c .args .1 .0));
-  neither = λ c e. c .met ∙ neither (c .args .0) (c .args .1 .0) (e .awt) (e .source);
-  transitive = λ c d e f g h p q. e .met ∙ (λ i. higherThan (sym g i) (sym h i)) ∙ trans (c .args .0) (c .args .1 .0) (d .args .1 .0) (sym (c .met) ∙ p) ((λ i. higherThan (f i) (d .args .1 .0)) ∙ sym (d .met) ∙ q);
+  exactly = λ c. subst⁻¹ (λ (t : Bool). Says t (Larger (one-open c) (other-open c))) (c .met) (exactly-so (one-open c) (other-open c));
+  never = λ c d e p q. never-both (one-open c) (other-open c) (sym (c .met) ∙ p) (sym (swapped c d e) ∙ q);
+  one = λ c d e off. one-of c d e off (one-is (one-open c) (other-open c));
+  neither = λ c e. c .met ∙ neither (one-open c) (other-open c) (e .awt) (e .source);
+  transitive = λ c d e f g h p q. e .met ∙ (λ i. higherThan (sym g i) (sym h i)) ∙ trans (one-open c) (other-open c) (other-open d) (sym (c .met) ∙ p) ((λ i. higherThan (f i) (other-open d)) ∙ sym (d .met) ∙ q);
 }

@@ -7,7 +7,6 @@ use mathlib.Core.List.{List, [], _∷_, _++_, map}
 use mathlib.Core.Path.{_≡_, refl, sym, ap, _∙_}
 use native.Mathlib.Omega.{arith}
 use borrow.Author.Tests.{le-ltb, lt-ltb}
-use denote.Ref.{now}
 use lib.Dec.{eqb}
 use lib.ListN.{length, take, drop, replicate, length-drop}
 use lib.Seq.{take-append-seam}
@@ -36,16 +35,17 @@ use Rattle.runs.proofs.Carry.{after-append, said-append}
 use Rattle.runs.proofs.Output.{whole, carried, blocks, blocks-said, feed-within, feed-moves, feed-stops}
 use Rattle.runs.proofs.Facts as facts
 use Rattle.claims.proofs.Calls.{ReadNumber, Fresh, Feed, Close}
+use Rattle.claims.proofs.Named.{digits, most, feed-run, feed-block, feed-lent, feed-left, close-run, close-lent, close-left}
 
 -- some calls of `feed`, each with the run that the last one left, have taken this input, written these words and left this run
 pub data Ran : List ℕ → List ℕ → Run → Type 0 where
   begun : (c : Fresh) → Ran [] [] (c .answer)
-  fed : {input words : List ℕ} {run : Run} → Ran input words run → (c : Feed) → c .args .0 ≡ run → Ran (input ++ take (c .answer .used) (now (c .args .1 .0))) (words ++ take (c .answer .wrote) (now (c .exit .1 .1 .0))) (c .answer .run)
+  fed : {input words : List ℕ} {run : Run} → Ran input words run → (c : Feed) → feed-run c ≡ run → Ran (input ++ take (c .answer .used) (feed-block c)) (words ++ take (c .answer .wrote) (feed-left c)) (c .answer .run)
 
 -- n calls of `feed`, each given what the last one left of a block, and room for a row, which has at most 71 bytes
 pub data Loop : List ℕ → ℕ → Type 0 where
   stop : {block : List ℕ} → Loop block 0
-  turn : {block : List ℕ} {n : ℕ} (c : Feed) → now (c .args .1 .0) ≡ block → 71 ≤ length (now (c .args .1 .1 .0)) → 0 < length block → Loop (drop (c .answer .used) block) n → Loop block (suc n)
+  turn : {block : List ℕ} {n : ℕ} (c : Feed) → feed-block c ≡ block → 71 ≤ length (feed-lent c) → 0 < length block → Loop (drop (c .answer .used) block) n → Loop block (suc n)
 
 -- what a run says of some bytes
 abbrev words-of : Run → List ℕ → List ℕ
@@ -53,23 +53,23 @@ words-of run s = said (carryOf run) s
 
 -- 01 TEXT.1 01 TEXT.2 01 TEXT.3 01 TEXT.4 01 TEXT.5
 pub record Text : Type 0 where
-  pub prints : {input words : List ℕ} {run : Run} → Ran input words run → (c : Close) → c .args .0 ≡ run → longestRow ≤ length (now (c .args .1 .0)) → words ++ take (c .answer .wrote) (now (c .exit .1 .0)) ≡ outputOf input
+  pub prints : {input words : List ℕ} {run : Run} → Ran input words run → (c : Close) → close-run c ≡ run → longestRow ≤ length (close-lent c) → words ++ take (c .answer .wrote) (close-left c) ≡ outputOf input
   -- feeding s and then t is feeding s ++ t
   pub parts : (run : Run) (s t : List ℕ) →
       (runOf (after (carryOf (runOf (after (carryOf run) s))) t) ≡ runOf (after (carryOf run) (s ++ t)))
       × (words-of run s ++ words-of (runOf (after (carryOf run) s)) t ≡ words-of run (s ++ t))
   -- with room for a row `feed` takes some of what it is given
-  pub moves : (c : Feed) → 71 ≤ length (now (c .args .1 .1 .0)) → 0 < length (now (c .args .1 .0)) → (0 < c .answer .used) × (c .answer .used ≤ length (now (c .args .1 .0)))
+  pub moves : (c : Feed) → 71 ≤ length (feed-lent c) → 0 < length (feed-block c) → (0 < c .answer .used) × (c .answer .used ≤ length (feed-block c))
   -- so that a loop that feeds what is left ends
   pub ends : (block : List ℕ) (n : ℕ) → Loop block n → n ≤ length block
   -- and it leaves something only where less room is left
-  pub stops : (c : Feed) → c .answer .used < length (now (c .args .1 .0)) → length (now (c .args .1 .1 .0)) < c .answer .wrote + 71
+  pub stops : (c : Feed) → c .answer .used < length (feed-block c) → length (feed-lent c) < c .answer .wrote + 71
   -- lines are numbered one by one, up to the last number of 64 bits
   pub numbers : (n : ℕ) → n < 18446744073709551615 → nextLine n ≡ n + 1
   pub says : (s : List ℕ) (c : Command) → (c ≡ Bad → ⊥) → readLine s ≡ c → s ≡ written c
   pub said : (c : Command) → Writable c → readLine (written c) ≡ c
-  pub reads : (c : ReadNumber) (n : ℕ) → now (c .args .0) ≡ decimal n → n ≤ c .args .1 .0 → c .answer ≡ Value n
-  pub writes : (c : ReadNumber) (n : ℕ) → c .answer ≡ Value n → (decimal n ≡ now (c .args .0)) × (n ≤ c .args .1 .0)
+  pub reads : (c : ReadNumber) (n : ℕ) → digits c ≡ decimal n → n ≤ most c → c .answer ≡ Value n
+  pub writes : (c : ReadNumber) (n : ℕ) → c .answer ≡ Value n → (decimal n ≡ digits c) × (n ≤ most c)
   -- 01 TEXT.1
   -- each line, typed, says its command, and the command does what its call does
   pub commands : map readLine typedLines ≡ typedCommands
@@ -103,7 +103,7 @@ stands : {input words : List ℕ} {run : Run} → Ran input words run → (run �
 stands (begun c) = (c .met, refl)
 stands (fed {input} {words} {run} r c e) =
     let at = stands r in
-    let carry : carryOf (c .args .0) ≡ after fresh input = ap carryOf (e ∙ at .0) ∙ carried (after fresh input) in
+    let carry : carryOf (feed-run c) ≡ after fresh input = ap carryOf (e ∙ at .0) ∙ carried (after fresh input) in
     let t = taken (c .met) in (
       ran (c .met)
           ∙ ap runOf (ap (λ (d : Carry). after d t) carry ∙ sym (after-append fresh input t) ∙ ap (λ (s : List ℕ). after fresh (input ++ s)) (sym (took (c .met)))),
@@ -124,7 +124,7 @@ all-closed room c len h = by (eqb len 0)
 few-calls : {block : List ℕ} {n : ℕ} → Loop block n → n ≤ length block
 few-calls stop = omega arith
 few-calls (turn {block} {n} c is room some left) =
-    let same : length (now (c .args .1 .0)) ≡ length block = ap length is in
+    let same : length (feed-block c) ≡ length block = ap length is in
     let moved = feed-moves (c .met) room (omega arith) in
     omega (arith, few-calls left, length-drop (c .answer .used) block)
 
@@ -132,9 +132,9 @@ pub text : Text
 text = record {
   prints = λ {input} {words} {run} r c e h.
       let at = stands r in
-      let is : c .args .0 ≡ runOf (after fresh input) = e ∙ at .0 in
-      let all = all-closed (length (now (c .args .1 .0))) (carryOf (c .args .0)) (c .args .0 .len) h in
-      (λ i. at .1 i ++ (wrote (c .met) ∙ ap (said (carryOf (c .args .0))) all) i)
+      let is : close-run c ≡ runOf (after fresh input) = e ∙ at .0 in
+      let all = all-closed (length (close-lent c)) (carryOf (close-run c)) (close-run c .len) h in
+      (λ i. at .1 i ++ (wrote (c .met) ∙ ap (said (carryOf (close-run c))) all) i)
       ∙ ap (λ (x : Run). said fresh input ++ said (carryOf x) (closing (x .len))) is
       ∙ ap (λ (d : Carry). said fresh input ++ said d (closing (length (after fresh input .begun)))) (carried (after fresh input))
       ∙ whole input;
@@ -145,8 +145,8 @@ text = record {
   numbers = λ n h. ap (λ (t : Bool). cond t (n + 1) n) (lt-ltb n 18446744073709551615 h);
   says = λ s c fine e. said-is c fine s e;
   said = is-said;
-  reads = λ c n e h. c .met ∙ ap (readNumber (c .args .1 .0)) e ∙ read-written (c .args .1 .0) n h;
-  writes = λ c n e. written-read (c .args .1 .0) (now (c .args .0)) n (sym (c .met) ∙ e);
+  reads = λ c n e h. c .met ∙ ap (readNumber (most c)) e ∙ read-written (most c) n h;
+  writes = λ c n e. written-read (most c) (digits c) n (sym (c .met) ∙ e);
   commands = facts.commands;
   calls = facts.calls;
   words = facts.words;

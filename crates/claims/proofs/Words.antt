@@ -8,7 +8,7 @@ use mathlib.Core.Logic.{_↔_}
 use mathlib.Core.Path.{_≡_, sym, ap, subst, _∙_}
 use lib.ListN.{replicate}
 use Rattle.refusals.specs.declared.Refusal.{Refusal}
-use Rattle.transfer.specs.Rules.{before}
+use Rattle.transfer.specs.Rules.{unstarted}
 use Rattle.transfer.specs.Steps.{limit, unfinished}
 use Rattle.transfer.specs.Calls as plainly
 use Rattle.transfer.specs.Examples.{inRanges, pastRanges}
@@ -28,7 +28,7 @@ use Rattle.claims.proofs.Balance.{Run, now, past, added, next}
 
 -- B, N, M and R of the last START that was taken
 abbrev request : Run → Asked
-request r = asked limit (r .calls) before unasked
+request r = asked limit (r .calls) unstarted unasked
 
 -- what the history says of the frames
 abbrev seen : Run → View
@@ -50,8 +50,8 @@ pub record Words : Type 0 where
   pub asked : (r : Run) → askedOf (now r) ≡ request r
   -- 01 READ.1
   -- START takes the least and the largest numbers, and is refused with 3 one past each
-  pub takes : map (λ (c : plainly.Call). plainly.stepOf limit c before .answer) inRanges ≡ replicate 5 Answer.Ok
-  pub takes-no-more : map (λ (c : plainly.Call). plainly.stepOf limit c before .answer) pastRanges ≡ replicate 6 (Answer.Refused Refusal.Rules)
+  pub takes : map (λ (c : plainly.Call). plainly.stepOf limit c unstarted .answer) inRanges ≡ replicate 5 Answer.Ok
+  pub takes-no-more : map (λ (c : plainly.Call). plainly.stepOf limit c unstarted .answer) pastRanges ≡ replicate 6 (Answer.Refused Refusal.Rules)
   -- 01 TEXT.2: of a call that is taken, each word exactly if
   -- 01 READ.5 01 READ.8 01 READ.9
   -- ok: START; or an ACK in an attempt with no NAK reported, while frames are unanswered or the last frame does not end at B+N
@@ -100,8 +100,8 @@ pub record Words : Type 0 where
   -- no call answers refusal 3, but a START whose own numbers are out of range, and that one does
   pub never-three : (r : Run) → (next r .answer ≡ Answer.Refused Refusal.Rules) ↔ OutOfRange (plainOf (r .last))
 
-told : (r : Run) → Taken r → word r ≡ wordBy (request r) (past r) (plainOf (r .last))
-told r = word-is limit (r .calls) (r .typed) (r .last) (r .tagged)
+by-history : (r : Run) → Taken r → word r ≡ wordBy (request r) (past r) (plainOf (r .last))
+by-history r = word-is limit (r .calls) (r .typed) (r .last) (r .tagged)
 
 numbers : (r : Run) → askedOf (now r) ≡ request r
 numbers r = asked-is limit (r .calls) (r .typed)
@@ -119,13 +119,13 @@ words = record {
   asked = numbers;
   takes = takes;
   takes-no-more = takes-no-more;
-  ok = λ r e. ap (λ (w : Word). w .ok) (told r e);
-  sent = λ r e. ap (λ (w : Word). w .sent) (told r e);
-  drain = λ r e. ap (λ (w : Word). w .drain) (told r e);
-  retry = λ r e. ap (λ (w : Word). w .retry) (told r e);
-  done = λ r e. ap (λ (w : Word). w .done) (told r e);
-  fail = λ r e. ap (λ (w : Word). w .fail) (told r e);
-  end = λ r e. ap (λ (w : Word). w .end) (told r e);
+  ok = λ r e. ap (λ (w : Word). w .ok) (by-history r e);
+  sent = λ r e. ap (λ (w : Word). w .sent) (by-history r e);
+  drain = λ r e. ap (λ (w : Word). w .drain) (by-history r e);
+  retry = λ r e. ap (λ (w : Word). w .retry) (by-history r e);
+  done = λ r e. ap (λ (w : Word). w .done) (by-history r e);
+  fail = λ r e. ap (λ (w : Word). w .fail) (by-history r e);
+  end = λ r e. ap (λ (w : Word). w .end) (by-history r e);
   used = λ r. tally-is limit (r .calls) (r .typed) .used;
   allowed = λ r u. subst (λ (n : ℕ). n ≤ request r .resends) (tally-is limit (r .calls) (r .typed) .used u) (subst (λ (a : Asked). now r .used ≤ a .resends) (numbers r) (allowed limit (r .calls) (r .typed) u));
   reads = λ r. reads limit (r .calls) (r .typed);

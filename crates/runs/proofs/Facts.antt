@@ -3,7 +3,7 @@ use mathlib.Core.Path.{_≡_, refl}
 use mathlib.Core.List.{map}
 use lib.ListN.{replicate}
 use Rattle.lines.specs.Numbers.{decimal, readNumber}
-use Rattle.transfer.specs.Rules.{placed, phaseRule, rules}
+use Rattle.transfer.specs.Rules.{placed, phaseRule, keepsRules}
 use Rattle.refusals.specs.declared.Refusal.{Refusal}
 use Rattle.transfer.specs.Steps.{limit, refused, settled, drained, acked, nacked, startStep, frameStep, ackStep, nakStep}
 use Rattle.transfer.specs.Calls.{Call, stepOf}
@@ -46,5 +46,5 @@ columns = refl
 
 -- 01 TEXT.6
 pub listed : outputOf typedInput ≡ typedOutput
-unfolding outputOf rowOf decimal readNumber commandOf readLine obeyed stepOf startStep frameStep ackStep nakStep settled drained acked nacked rules placed phaseRule
+unfolding outputOf rowOf decimal readNumber commandOf readLine obeyed stepOf startStep frameStep ackStep nakStep settled drained acked nacked keepsRules placed phaseRule
 listed = refl

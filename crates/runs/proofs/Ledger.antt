@@ -11,7 +11,7 @@ use Rattle.laws.proofs.Bools.{impossible, by-test}
 use Rattle.refusals.proofs.Causes.{by-causes}
 use Rattle.refusals.specs.Causes.{refuse}
 use Rattle.refusals.specs.declared.Refusal.{Refusal}
-use Rattle.transfer.specs.Rules.{before}
+use Rattle.transfer.specs.Rules.{unstarted}
 use Rattle.transfer.specs.Steps.{limit, unfinished, draining, say, refused, started, framed, frameLength, answered, allSent, settled, drained, acked, nacked, dropped, ended}
 use Rattle.transfer.specs.Steps.{startCauses, frameCauses, answerCauses, endCauses, startStep, frameStep, ackStep, nakStep, dropStep, endStep}
 use Rattle.transfer.specs.Calls.{Call, start, frame, ack, nak, timeout, lost, nexus, cancel, stepOf}
@@ -49,7 +49,7 @@ shown k s (l ∷ ls) = ap (λ (b : List ℕ). row (nextLine k) (obeyed (readLine
 -- a run is read
 pub read-out : (input : List ℕ) → Read input (turnsOf input)
 unfolding outputOf
-read-out input = record { said = saying 0 before (linesOf input); printed = shown 0 before (linesOf input) }
+read-out input = record { said = saying 0 unstarted (linesOf input); printed = shown 0 unstarted (linesOf input) }
 
 -- ---- the request and the words
 
@@ -224,13 +224,13 @@ stand k s (l ∷ ls) w a (t ∷ past) rest e =
     let x = stand (nextLine k) (st .state) ls (enter w t) after past rest more in
     record { number = x .number; state = x .state; lines = x .lines; are = x .are; agree = x .agree }
 
-first-agree : Agree before blankLedger
+first-agree : Agree unstarted blankLedger
 first-agree = record { offset = refl; count = refl; going = refl; read = refl; balance = refl; unanswered = refl; sound = at-first limit }
 
 -- of any lines that are those of an input and of its output
 module _ (input : List ℕ) (past rest : List Turn) (r : Read input (past ++ rest)) where
   stood : Stands blankLedger past rest
-  stood = stand 0 before (linesOf input) blankLedger first-agree past rest (one-reading (turnsOf input) (past ++ rest) (read-out input .said ∙ sym (r .said)) (read-out input .printed ∙ sym (r .printed)))
+  stood = stand 0 unstarted (linesOf input) blankLedger first-agree past rest (one-reading (turnsOf input) (past ++ rest) (read-out input .said ∙ sym (r .said)) (read-out input .printed ∙ sym (r .printed)))
 
   -- DEMAND 3, of the ledger at any place
   pub ledger-holds : Holds (entered blankLedger past)

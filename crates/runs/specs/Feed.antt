@@ -7,7 +7,7 @@ use lib.Dec.{ltb, eqb}
 use lib.ListN.{length, take, drop, replicate}
 use Rattle.lines.specs.Parts.{lf}
 use Rattle.lines.specs.Puts.{Put}
-use Rattle.transfer.specs.Rules.{before}
+use Rattle.transfer.specs.Rules.{unstarted}
 use Rattle.transfer.specs.declared.Transfer.{Transfer}
 use Rattle.transfer.specs.declared.Stepped.{Stepped}
 use Rattle.runs.specs.Commands.{longest, readLine, obeyed}
@@ -35,7 +35,7 @@ runOf c = record { line = c .line; len = length (c .begun); keep = c .begun ++ r
 
 -- before any input
 abbrev pub fresh : Carry
-fresh = record { line = 0; begun = []; state = before }
+fresh = record { line = 0; begun = []; state = unstarted }
 
 -- line numbers start at 1, and the last of 64 bits stays
 abbrev pub nextLine : ℕ → ℕ

@@ -2,7 +2,7 @@
 use Prim.Native.Nat.{ℕ}
 use mathlib.Core.List.{List, [], _∷_, _++_}
 use Rattle.lines.specs.Parts.{linesOf}
-use Rattle.transfer.specs.Rules.{before}
+use Rattle.transfer.specs.Rules.{unstarted}
 use Rattle.transfer.specs.declared.Transfer.{Transfer}
 use Rattle.runs.specs.Commands.{readLine, obeyed}
 use Rattle.runs.specs.Rows.{row}
@@ -15,4 +15,4 @@ rows k s (l ∷ ls) = row (nextLine k) (obeyed (readLine l) s) ++ rows (nextLine
 
 -- 01 TEXT.3: Lines end in LF, the last perhaps not
 unfoldable pub outputOf : List ℕ → List ℕ
-outputOf input = rows 0 before (linesOf input)
+outputOf input = rows 0 unstarted (linesOf input)

@@ -4,7 +4,7 @@ use Prim.Native.Nat.{ℕ}
 use mathlib.Core.List.{List, [], _∷_, _++_, map}
 use mathlib.Core.Path.{_≡_}
 use Rattle.lines.specs.Parts.{linesOf}
-use Rattle.transfer.specs.Rules.{before}
+use Rattle.transfer.specs.Rules.{unstarted}
 use Rattle.transfer.specs.Examples.{Line, line}
 use Rattle.transfer.specs.declared.Transfer.{Transfer}
 use Rattle.transfer.specs.declared.Stepped.{Stepped}
@@ -28,7 +28,7 @@ turns k s [] = []
 turns k s (l ∷ ls) = turnOf k (readLine l) (obeyed (readLine l) s) ∷ turns (nextLine k) (obeyed (readLine l) s .state) ls
 
 abbrev pub turnsOf : List ℕ → List Turn
-turnsOf input = turns 0 before (linesOf input)
+turnsOf input = turns 0 unstarted (linesOf input)
 
 -- the lines of output, as bytes
 abbrev pub shownBytes : List Turn → List ℕ

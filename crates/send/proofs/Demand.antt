@@ -5,7 +5,7 @@ use mathlib.Core.List.{List, [], _∷_, _++_}
 use mathlib.Core.Path.{sym, subst}
 use Rattle.laws.proofs.Bools.{never}
 use Rattle.refusals.specs.declared.Refusal.{Refusal}
-use Rattle.transfer.specs.Rules.{before}
+use Rattle.transfer.specs.Rules.{unstarted}
 use Rattle.transfer.specs.Steps.{refused, frameStep}
 use Rattle.transfer.specs.Calls as plainly
 use Rattle.transfer.specs.Log.{nextFrame}
@@ -67,7 +67,7 @@ all-sound bound (c ∷ cs) s h typed i = all-sound bound cs (stepOf bound c s .s
 
 -- DEMAND 3, over any calls of both kinds from the state before START, and one call more
 pub demand-3 : (bound : ℕ) (cs : List Call) (c : Call) → AllTyped cs → Typed c →
-    let s = run bound cs before in
-    let h = history bound cs before [] in
+    let s = run bound cs unstarted in
+    let h = history bound cs unstarted [] in
     Demand3 bound s (frames h) (frames (entriesOf bound c s)) (stepOf bound c s)
-demand-3 bound cs c typed one = sound bound (run bound cs before) (history bound cs before []) c one (all-sound bound cs before [] typed (at-first bound)) .demand
+demand-3 bound cs c typed one = sound bound (run bound cs unstarted) (history bound cs unstarted []) c one (all-sound bound cs unstarted [] typed (at-first bound)) .demand

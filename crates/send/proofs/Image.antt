@@ -8,7 +8,7 @@ use mathlib.Core.Path.{_≡_, refl, sym, ap, subst, _∙_}
 use native.Mathlib.Omega.{arith}
 use lib.ListN.{length, getD, take, drop}
 use lib.Seq.{getD-take, getD-drop}
-use Rattle.transfer.specs.Rules.{endOf, before}
+use Rattle.transfer.specs.Rules.{endOf, unstarted}
 use Rattle.transfer.specs.Calls as plainly
 use Rattle.transfer.specs.History.{Frame, EntryOf, started, sent, acked, nacked, timedOut, wasLost, ended, entryOf as entryFor, entries, isRefused, ViewOf, View, anew, closeBy, popAck, popNak, note, view, Covered}
 use Rattle.transfer.specs.declared.Transfer.{Transfer}
@@ -160,16 +160,16 @@ module _ (image : List ℕ) where
   all-go bound (c ∷ cs) s h typed given w = all-go bound cs (stepOf bound c s .state) (entriesOf bound c s ++ h) (typed .1) (given .1) (went-append Holds (entriesOf bound c s) h (goes bound c s (typed .0) (given .0)) w)
 
   -- THE IMAGE: when "delivered" is answered, every requested byte stands in an ACKed frame's bytes, as it stands in the image
-  pub delivered : (bound : ℕ) (cs : List Call) (c : Call) → AllTyped cs → Typed c → AllFromImage image bound cs before →
-      let s = run bound cs before in
-      let h = history bound cs before [] in
+  pub delivered : (bound : ℕ) (cs : List Call) (c : Call) → AllTyped cs → Typed c → AllFromImage image bound cs unstarted →
+      let s = run bound cs unstarted in
+      let h = history bound cs unstarted [] in
       FromImage image c s → stepOf bound c s .answer ≡ Answer.Done → (x : ℕ) → s .offset ≤ x → x < endOf s → Shown image x (view (entriesOf bound c s ++ h) .acked)
   unfolding framed
   delivered bound cs c typed one given this done x low high =
-      let s = run bound cs before in
-      let h = history bound cs before [] in
+      let s = run bound cs unstarted in
+      let h = history bound cs unstarted [] in
       let es = entriesOf bound c s in
       let covered = demand-3 bound cs c typed one .delivered done x low high in
       let same : view (frames es ++ frames h) .acked ≡ map frameOf (view (es ++ h) .acked) = ap (λ (v : View). v .acked) (ap view (sym (map-append entryOf es h)) ∙ viewed (es ++ h)) in
-      let all = both Holds (es ++ h) (went-append Holds es h (goes bound c s one this) (all-go bound cs before [] typed given tt)) .ours in
+      let all = both Holds (es ++ h) (went-append Holds es h (goes bound c s one this) (all-go bound cs unstarted [] typed given tt)) .ours in
       shown x (view (es ++ h) .acked) all (subst (λ (fs : List Frame). Covered x fs) same covered)

@@ -3,7 +3,7 @@
 use Prim.Native.Nat.{ℕ, _+_, _*_, _≤_}
 use mathlib.Core.List.{List, [], _∷_, _++_}
 use mathlib.Core.Path.{_≡_, refl, sym, ap, subst, _∙_}
-use Rattle.transfer.specs.Rules.{before, frames as framesOf}
+use Rattle.transfer.specs.Rules.{unstarted, frames as framesOf}
 use Rattle.transfer.specs.Steps.{frameStep}
 use Rattle.transfer.specs.Calls as plainly
 use Rattle.transfer.specs.Log as log
@@ -77,8 +77,8 @@ as-plain bound (next destination source tag body out ∷ cs) s h typed =
     (as-plain bound cs (stepOf bound c s .state) (entriesOf bound c s ++ h) (typed .1))
 
 -- over any calls of both kinds at most (R+1) times ⌈N/M⌉ frames go for one START
-pub sends-end : (bound : ℕ) (cs : List Call) → AllTyped cs → let s = run bound cs before in framesSent (frames (history bound cs before [])) ≤ (s .resends + 1) * framesOf (s .count) (s .size)
+pub sends-end : (bound : ℕ) (cs : List Call) → AllTyped cs → let s = run bound cs unstarted in framesSent (frames (history bound cs unstarted [])) ≤ (s .resends + 1) * framesOf (s .count) (s .size)
 sends-end bound cs typed =
-    let p = as-plain bound cs before [] typed in
-    subst (λ (s : Transfer). framesSent (frames (history bound cs before [])) ≤ (s .resends + 1) * framesOf (s .count) (s .size)) (p .state)
-    (subst (λ (h : List Entry). framesSent h ≤ (plainly.run bound (p .calls) before .resends + 1) * framesOf (plainly.run bound (p .calls) before .count) (plainly.run bound (p .calls) before .size)) (p .same) (ends bound (p .calls)))
+    let p = as-plain bound cs unstarted [] typed in
+    subst (λ (s : Transfer). framesSent (frames (history bound cs unstarted [])) ≤ (s .resends + 1) * framesOf (s .count) (s .size)) (p .state)
+    (subst (λ (h : List Entry). framesSent h ≤ (plainly.run bound (p .calls) unstarted .resends + 1) * framesOf (plainly.run bound (p .calls) unstarted .count) (plainly.run bound (p .calls) unstarted .size)) (p .same) (ends bound (p .calls)))

@@ -5,7 +5,7 @@ use mathlib.Core.Bool.{Bool, cond}
 use mathlib.Core.List.{List, [], _∷_}
 use mathlib.Core.Path.{_≡_, sym, ap, _∙_}
 use lib.ListN.{length}
-use Rattle.transfer.specs.Rules.{before}
+use Rattle.transfer.specs.Rules.{unstarted}
 use Rattle.transfer.specs.Calls as plainly
 use Rattle.transfer.specs.Log.{nextFrame}
 use Rattle.transfer.specs.History.{sent, entries, view, firstResent}
@@ -46,11 +46,11 @@ module _ (bound : ℕ) (s : Transfer) (f : Sent) where
 
 -- over any calls of both kinds, and one call more that adds a frame
 pub changing-is : (bound : ℕ) (cs : List Call) (c : Call) → AllTyped cs → Typed c →
-    let s = run bound cs before in
-    let h = history bound cs before [] in
+    let s = run bound cs unstarted in
+    let h = history bound cs unstarted [] in
     (f : Sent) → entriesOf bound c s ≡ sent f ∷ [] → f .changing ≡ cond (firstResent (view (frames h))) 1 0
 changing-is bound cs c typed one f e =
-    let s = run bound cs before in
-    let h = history bound cs before [] in
+    let s = run bound cs unstarted in
+    let h = history bound cs unstarted [] in
     let p = points bound s f c one e in
-    p .row ∙ ap (λ (t : Bool). cond t 1 0) (first-again bound s (frames h) (all-sound bound cs before [] typed (at-first bound)) (p .runs))
+    p .row ∙ ap (λ (t : Bool). cond t 1 0) (first-again bound s (frames h) (all-sound bound cs unstarted [] typed (at-first bound)) (p .runs))

@@ -11,7 +11,7 @@ use Rattle.laws.proofs.Bools.{and-alone, on-false}
 use Rattle.refusals.specs.Refusals.{numberOf}
 use Rattle.refusals.proofs.Causes.{refuse-append, through}
 use Rattle.ssp_frame.specs.Data.{frameEnd, dataListed}
-use Rattle.transfer.specs.Rules.{before, rules}
+use Rattle.transfer.specs.Rules.{unstarted, keepsRules}
 use Rattle.transfer.specs.Steps.{unfinished, frameLength, framed, refused, frameCauses}
 use Rattle.transfer.specs.Calls as plainly
 use Rattle.transfer.specs.Log.{askedOf}
@@ -30,7 +30,7 @@ use Rattle.send.proofs.Laws.{own}
 use Rattle.send.proofs.Plain.{as-plain}
 use Rattle.send.proofs.Words.{asked-is, holds, tally-is, keeps}
 
-module _ (bound : ℕ) (s : Transfer) (h : List Entry) (i : Inv bound s (view h)) (w : Tally s h) (l : Lives s h) (kept : rules bound s ≡ true) where
+module _ (bound : ℕ) (s : Transfer) (h : List Entry) (i : Inv bound s (view h)) (w : Tally s h) (l : Lives s h) (kept : keepsRules bound s ≡ true) where
   -- the place and the length of the next frame
   at-is : unfinished (s .phase) ≡ true → s .read ≡ nextAt (askedOf s) h
   at-is u = read-is bound s h i w u ∙ ap (λ (b : ℕ). lastEnd b (view h .attempt)) (w .point)
@@ -70,13 +70,13 @@ module _ (bound : ℕ) (s : Transfer) (h : List Entry) (i : Inv bound s (view h)
 
 -- over any calls of both kinds from the state before START
 module _ (bound : ℕ) (cs : List Call) (typed : AllTyped cs) where
-  pub lives : Lives (run bound cs before) (frames (history bound cs before []))
+  pub lives : Lives (run bound cs unstarted) (frames (history bound cs unstarted []))
   lives =
-      let p = as-plain bound cs before [] typed in
-      subst (λ (s : Transfer). Lives s (frames (history bound cs before []))) (p .state) (subst (Lives (plainly.run bound (p .calls) before)) (p .same) (lived bound (p .calls)))
+      let p = as-plain bound cs unstarted [] typed in
+      subst (λ (s : Transfer). Lives s (frames (history bound cs unstarted []))) (p .state) (subst (Lives (plainly.run bound (p .calls) unstarted)) (p .same) (lived bound (p .calls)))
 
   -- and one call more
-  pub refusal-is : (c : Call) → refusalOf (stepOf bound c (run bound cs before) .answer) ≡ refusalBy bound (asked bound cs before unasked) (frames (history bound cs before [])) c
+  pub refusal-is : (c : Call) → refusalOf (stepOf bound c (run bound cs unstarted) .answer) ≡ refusalBy bound (asked bound cs unstarted unasked) (frames (history bound cs unstarted [])) c
   refusal-is c =
-      refuses-either bound (run bound cs before) (frames (history bound cs before [])) (holds bound cs typed) (tally-is bound cs typed) lives (keeps bound cs typed) c
-      ∙ ap (λ (a : Asked). refusalBy bound a (frames (history bound cs before [])) c) (asked-is bound cs typed)
+      refuses-either bound (run bound cs unstarted) (frames (history bound cs unstarted [])) (holds bound cs typed) (tally-is bound cs typed) lives (keeps bound cs typed) c
+      ∙ ap (λ (a : Asked). refusalBy bound a (frames (history bound cs unstarted [])) c) (asked-is bound cs typed)

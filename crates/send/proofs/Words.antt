@@ -8,7 +8,7 @@ use mathlib.Core.Path.{_≡_, refl, sym, ap, subst, _∙_}
 use lib.ListN.{drop}
 use Rattle.laws.proofs.Bools.{impossible}
 use Rattle.refusals.specs.declared.Refusal.{Refusal}
-use Rattle.transfer.specs.Rules.{before, rules}
+use Rattle.transfer.specs.Rules.{unstarted, keepsRules}
 use Rattle.transfer.specs.Steps.{unfinished, frameLength, framed}
 use Rattle.transfer.specs.Calls as plainly
 use Rattle.transfer.specs.Log.{nextFrame, askedOf}
@@ -70,7 +70,7 @@ module _ (bound : ℕ) (s : Transfer) where
         (λ k e. impossible (sym e)) destination source tag body out typed
 
   -- refusal 3
-  three-either : rules bound s ≡ true → (c : Call) → (stepOf bound c s .answer ≡ Answer.Refused Refusal.Rules) ↔ OutOfRange (plainOf c)
+  three-either : keepsRules bound s ≡ true → (c : Call) → (stepOf bound c s .answer ≡ Answer.Refused Refusal.Rules) ↔ OutOfRange (plainOf c)
   unfolding nextStep
   three-either good (plain c) = three bound s good c
   three-either good (next destination source tag body out) =
@@ -84,34 +84,34 @@ all-asked bound (c ∷ cs) s typed =
 -- over any calls of both kinds from the state before START
 module _ (bound : ℕ) (cs : List Call) (typed : AllTyped cs) where
   -- the numbers that the state holds are those of the last START that was taken
-  pub asked-is : askedOf (run bound cs before) ≡ asked bound cs before unasked
-  asked-is = all-asked bound cs before typed
+  pub asked-is : askedOf (run bound cs unstarted) ≡ asked bound cs unstarted unasked
+  asked-is = all-asked bound cs unstarted typed
 
-  pub holds : Inv bound (run bound cs before) (view (frames (history bound cs before [])))
-  holds = all-sound bound cs before [] typed (at-first bound)
+  pub holds : Inv bound (run bound cs unstarted) (view (frames (history bound cs unstarted [])))
+  holds = all-sound bound cs unstarted [] typed (at-first bound)
 
-  pub tally-is : Tally (run bound cs before) (frames (history bound cs before []))
+  pub tally-is : Tally (run bound cs unstarted) (frames (history bound cs unstarted []))
   tally-is =
-      let p = as-plain bound cs before [] typed in
-      subst (λ (s : Transfer). Tally s (frames (history bound cs before []))) (p .state) (subst (Tally (plainly.run bound (p .calls) before)) (p .same) (tallied bound (p .calls)))
+      let p = as-plain bound cs unstarted [] typed in
+      subst (λ (s : Transfer). Tally s (frames (history bound cs unstarted []))) (p .state) (subst (Tally (plainly.run bound (p .calls) unstarted)) (p .same) (tallied bound (p .calls)))
 
   -- what calls leave passes the test of a state
-  pub keeps : rules bound (run bound cs before) ≡ true
-  keeps = let p = as-plain bound cs before [] typed in subst (λ (s : Transfer). rules bound s ≡ true) (p .state) (keeps-rules bound (p .calls))
+  pub keeps : keepsRules bound (run bound cs unstarted) ≡ true
+  keeps = let p = as-plain bound cs unstarted [] typed in subst (λ (s : Transfer). keepsRules bound s ≡ true) (p .state) (keeps-rules bound (p .calls))
 
   -- no more resends are used than were allowed
-  pub allowed : unfinished (run bound cs before .phase) ≡ true → run bound cs before .used ≤ run bound cs before .resends
-  allowed u = underway bound (run bound cs before) keeps u .0 .0 .1 .1 .1 .1
+  pub allowed : unfinished (run bound cs unstarted .phase) ≡ true → run bound cs unstarted .used ≤ run bound cs unstarted .resends
+  allowed u = underway bound (run bound cs unstarted) keeps u .0 .0 .1 .1 .1 .1
 
-  pub reads : unfinished (run bound cs before .phase) ≡ true → run bound cs before .read ≡ lastEnd (run bound cs before .balance) (view (frames (history bound cs before [])) .attempt)
-  reads = read-is bound (run bound cs before) (frames (history bound cs before [])) holds tally-is
+  pub reads : unfinished (run bound cs unstarted .phase) ≡ true → run bound cs unstarted .read ≡ lastEnd (run bound cs unstarted .balance) (view (frames (history bound cs unstarted [])) .attempt)
+  reads = read-is bound (run bound cs unstarted) (frames (history bound cs unstarted [])) holds tally-is
 
   -- and one call more
   module _ (c : Call) (one : Typed c) where
-    pub word-is : isRefused (stepOf bound c (run bound cs before) .answer) ≡ false → wordOf (stepOf bound c (run bound cs before) .answer) ≡ wordBy (asked bound cs before unasked) (frames (history bound cs before [])) (plainOf c)
+    pub word-is : isRefused (stepOf bound c (run bound cs unstarted) .answer) ≡ false → wordOf (stepOf bound c (run bound cs unstarted) .answer) ≡ wordBy (asked bound cs unstarted unasked) (frames (history bound cs unstarted [])) (plainOf c)
     word-is e =
-        says-either bound (run bound cs before) (frames (history bound cs before [])) holds tally-is c one e
-        ∙ ap (λ (a : Asked). wordBy a (frames (history bound cs before [])) (plainOf c)) asked-is
+        says-either bound (run bound cs unstarted) (frames (history bound cs unstarted [])) holds tally-is c one e
+        ∙ ap (λ (a : Asked). wordBy a (frames (history bound cs unstarted [])) (plainOf c)) asked-is
 
-    pub never-three : (stepOf bound c (run bound cs before) .answer ≡ Answer.Refused Refusal.Rules) ↔ OutOfRange (plainOf c)
-    never-three = three-either bound (run bound cs before) keeps c
+    pub never-three : (stepOf bound c (run bound cs unstarted) .answer ≡ Answer.Refused Refusal.Rules) ↔ OutOfRange (plainOf c)
+    never-three = three-either bound (run bound cs unstarted) keeps c

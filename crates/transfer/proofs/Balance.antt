@@ -12,7 +12,7 @@ use borrow.Author.Tests.{eqb-true, eqb-false, leb-false, not-false}
 use Rattle.laws.proofs.Bools.{by-test}
 use Rattle.refusals.specs.Causes.{refuse}
 use Rattle.refusals.specs.declared.Refusal.{Refusal}
-use Rattle.transfer.specs.Rules.{before}
+use Rattle.transfer.specs.Rules.{unstarted}
 use Rattle.transfer.specs.Steps.{unfinished, draining, started, frameLength, framed, answered, allSent, settled}
 use Rattle.transfer.specs.Steps.{drained, acked, nacked, dropped, ended, refused, say, startCauses, frameCauses, answerCauses}
 use Rattle.transfer.specs.Steps.{endCauses, startStep, frameStep, ackStep, nakStep, dropStep, endStep}
@@ -150,7 +150,7 @@ module _ (bound : ℕ) (s : Transfer) (h : List Entry) (i : Inv bound s (view h)
   keeps cancel = finish cancel refl
 
 -- it holds before any call, and so after any
-pub at-first : (bound : ℕ) → Inv bound before (view [])
+pub at-first : (bound : ℕ) → Inv bound unstarted (view [])
 at-first bound =
     record {
       first = omega arith;

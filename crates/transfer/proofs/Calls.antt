@@ -8,7 +8,7 @@ use native.Mathlib.Omega.{arith}
 use lib.Dec.{leb, eqb}
 use borrow.Author.Tests.{not-true, not-false, eqb-false, leb-false}
 use Rattle.laws.proofs.Bools.{never, nor}
-use Rattle.transfer.specs.Rules.{endOf, before, framesOut, rules}
+use Rattle.transfer.specs.Rules.{endOf, unstarted, framesOut, keepsRules}
 use Rattle.transfer.specs.Steps.{unfinished, draining, frameLength, answerCauses}
 use Rattle.transfer.specs.declared.Transfer.{Transfer}
 use Rattle.transfer.specs.declared.Phase.{Phase}
@@ -35,10 +35,10 @@ some-left s e =
     let some = eqb-false (s .unanswered) 0 (both .1) in
     (not-false (unfinished (s .phase)) (both .0), omega arith)
 
-module _ (bound : ℕ) (s : Transfer) (kept : rules bound s ≡ true) where
+module _ (bound : ℕ) (s : Transfer) (kept : keepsRules bound s ≡ true) where
   pub underway : unfinished (s .phase) ≡ true → Started bound s
   underway e =
-      ⊎-elim (λ (z : s ≡ before). absurd (never (ap (λ (t : Transfer). unfinished (t .phase)) (sym z) ∙ e))) (λ (w : Started bound s). w) (rules-say bound s .0 kept)
+      ⊎-elim (λ (z : s ≡ unstarted). absurd (never (ap (λ (t : Transfer). unfinished (t .phase)) (sym z) ∙ e))) (λ (w : Started bound s). w) (rules-say bound s .0 kept)
 
   drain-again : (p : Phase) → draining p ≡ true → PhaseRule bound (endOf s) (framesOut s) p s → s .used < s .resends
   drain-again Phase.New e h = absurd (never e)
@@ -62,7 +62,7 @@ module _ (bound : ℕ) (s : Transfer) (kept : rules bound s ≡ true) where
 
 -- what the check of an answer leaves known
 pub record Answerable (bound : ℕ) (s : Transfer) : Type 0 where
-  pub kept : rules bound s ≡ true
+  pub kept : keepsRules bound s ≡ true
   pub underway : unfinished (s .phase) ≡ true
   pub some : 0 < s .unanswered
 
@@ -70,7 +70,7 @@ pub answerable : (bound : ℕ) (s : Transfer) {x : Checked} → x ≡ refuse Che
 answerable bound s is passed =
     let off = none-given (answerCauses bound s) is passed in
     let left = some-left s (off .1 .0) in
-    record { kept = not-false (rules bound s) (off .0); underway = left .0; some = left .1 }
+    record { kept = not-false (keepsRules bound s) (off .0); underway = left .0; some = left .1 }
 
 -- below a bound one more can be counted
 pub countable : (b x : ℕ) → b ≤ 4294967295 → leb b x ≡ false → x < 4294967295

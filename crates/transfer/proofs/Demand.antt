@@ -8,7 +8,7 @@ use lib.Dec.{ltb, leb, eqb}
 use lib.ListN.{length}
 use borrow.Author.Tests.{not-false}
 use Rattle.laws.proofs.Bools.{never, by-test, impossible}
-use Rattle.transfer.specs.Rules.{endOf, before}
+use Rattle.transfer.specs.Rules.{endOf, unstarted}
 use Rattle.transfer.specs.Steps.{unfinished, draining, started, frameLength, framed, answered, allSent, settled, drained, acked, nacked, dropped}
 use Rattle.transfer.specs.Steps.{ended, refused, say, startCauses, frameCauses, answerCauses, endCauses, startStep, frameStep, ackStep, nakStep}
 use Rattle.transfer.specs.Steps.{dropStep, endStep}
@@ -173,15 +173,15 @@ module _ (bound : ℕ) (s : Transfer) (h : List Entry) (i : Inv bound s (view h)
 
 -- DEMAND 3, over any calls from the state before START, and one call more
 pub demand-3 : (bound : ℕ) (cs : List Call) (c : Call) →
-    let s = run bound cs before in
-    let h = history bound cs before [] in
+    let s = run bound cs unstarted in
+    let h = history bound cs unstarted [] in
     Demand3 bound s h (entriesOf bound c s) (stepOf bound c s)
-demand-3 bound cs c = demand bound _ _ (all-keep bound cs before [] (at-first bound)) c
+demand-3 bound cs c = demand bound _ _ (all-keep bound cs unstarted [] (at-first bound)) c
 
 -- the same of a transfer that was saved after some calls and is taken back, with any calls after that
-pub demand-3-saved : (bound : ℕ) (cs ds : List Call) (c : Call) (saved : Transfer) → run bound cs before ≡ saved →
+pub demand-3-saved : (bound : ℕ) (cs ds : List Call) (c : Call) (saved : Transfer) → run bound cs unstarted ≡ saved →
     let s = run bound ds saved in
-    let h = history bound ds saved (history bound cs before []) in
+    let h = history bound ds saved (history bound cs unstarted []) in
     Demand3 bound s h (entriesOf bound c s) (stepOf bound c s)
 demand-3-saved bound cs ds c saved e =
-    demand bound _ _ (all-keep bound ds saved _ (subst (λ (t : Transfer). Inv bound t (view (history bound cs before []))) e (all-keep bound cs before [] (at-first bound)))) c
+    demand bound _ _ (all-keep bound ds saved _ (subst (λ (t : Transfer). Inv bound t (view (history bound cs unstarted []))) e (all-keep bound cs unstarted [] (at-first bound)))) c

@@ -10,7 +10,7 @@ use lib.Dec.{leb, eqb}
 use borrow.Author.Tests.{eqb-false, not-false}
 use Rattle.laws.proofs.Bools.{by-test}
 use Rattle.refusals.specs.Causes.{refuse}
-use Rattle.transfer.specs.Rules.{endOf, before, frames}
+use Rattle.transfer.specs.Rules.{endOf, unstarted, frames}
 use Rattle.transfer.specs.Steps.{draining, started, frameLength, framed, answered, allSent, settled, drained, acked, nacked, dropped, ended}
 use Rattle.transfer.specs.Steps.{refused, say, startCauses, frameCauses, answerCauses, endCauses, startStep, frameStep, ackStep, nakStep}
 use Rattle.transfer.specs.Steps.{dropStep, endStep}
@@ -134,5 +134,5 @@ at-most bound s h (inr w) few =
 
 -- over any calls at most (R+1) times ⌈N/M⌉ frames are sent for one START
 pub ends : (bound : ℕ) (cs : List Call)
-    → let s = run bound cs before in framesSent (history bound cs before []) ≤ (s .resends + 1) * frames (s .count) (s .size)
-ends bound cs = let w = all-few bound cs before [] (inl refl) (omega arith) in at-most bound (run bound cs before) (history bound cs before []) (w .0) (w .1)
+    → let s = run bound cs unstarted in framesSent (history bound cs unstarted []) ≤ (s .resends + 1) * frames (s .count) (s .size)
+ends bound cs = let w = all-few bound cs unstarted [] (inl refl) (omega arith) in at-most bound (run bound cs unstarted) (history bound cs unstarted []) (w .0) (w .1)

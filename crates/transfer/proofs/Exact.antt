@@ -8,7 +8,7 @@ use mathlib.Core.Path.{_≡_, refl, sym, ap, subst, _∙_}
 use native.Mathlib.Omega.{arith}
 use native.Mathlib.Nat.{mul-le-mul-right, lt-of-mul-lt-mul-right}
 use Rattle.laws.proofs.Bools.{impossible}
-use Rattle.transfer.specs.Rules.{endOf, inRange, before, frames, rules}
+use Rattle.transfer.specs.Rules.{endOf, inRange, unstarted, frames, keepsRules}
 use Rattle.transfer.specs.Steps.{startStep, frameStep, ackStep, nakStep, dropStep, endStep}
 use Rattle.transfer.specs.Calls.{Call, start, frame, ack, nak, timeout, lost, nexus, cancel, stepOf, run, Reachable}
 use Rattle.transfer.specs.Grounds.{InRange}
@@ -22,7 +22,7 @@ use Rattle.transfer.proofs.Moves.{ack-done, nak-one, nak-drain, nak-fai
 
 -- some calls leave s of the state before START
 abbrev pub Reach : ℕ → Transfer → Type 0
-Reach bound s = (cs : List Call) × (run bound cs before ≡ s)
+Reach bound s = (cs : List Call) × (run bound cs unstarted ≡ s)
 
 run-snoc : (bound : ℕ) (cs : List Call) (c : Call) (s : Transfer) → run bound (cs ++ (c ∷ [])) s ≡ stepOf bound c (run bound cs s) .state
 run-snoc bound [] c s = refl
@@ -30,7 +30,7 @@ run-snoc bound (d ∷ cs) c s = run-snoc bound cs c (stepOf bound d s .state)
 
 further : (bound : ℕ) (s t : Transfer) (c : Call) → Reach bound s → stepOf bound c s .state ≡ t → Reach bound t
 further bound s t c r e =
-    (r .0 ++ (c ∷ []), run-snoc bound (r .0) c before ∙ ap (λ (x : Transfer). stepOf bound c x .state) (r .1) ∙ e)
+    (r .0 ++ (c ∷ []), run-snoc bound (r .0) c unstarted ∙ ap (λ (x : Transfer). stepOf bound c x .state) (r .1) ∙ e)
 
 module _ (bound : ℕ) (two : 2 ≤ bound) (s : Transfer) (h : InRange (s .offset) (s .count) (s .size) (s .resends)) where
   begins : Reach bound (at s 0 0 0 false 0 Phase.Run)
@@ -147,7 +147,7 @@ module _ (bound : ℕ) (two : 2 ≤ bound) (s : Transfer) (k f : ℕ) (h : BaseO
   out-here : (d : ℕ) → suc d ≤ f → suc d ≤ bound → Reach bound (at s k f (suc d) true (s .used) Phase.Run)
   out-here d l o = out bound two s (h .setup) d k f (s .used) (h .real) l o (h .tried)
 
-  out-keeps : (d : ℕ) → suc d ≤ f → suc d ≤ bound → rules bound (at s k f (suc d) true (s .used) Phase.Run) ≡ true
+  out-keeps : (d : ℕ) → suc d ≤ f → suc d ≤ bound → keepsRules bound (at s k f (suc d) true (s .used) Phase.Run) ≡ true
   out-keeps d l o = out-kept bound s (h .setup) k f d (s .used) within (h .real) (h .tried) l o
 
   run-reach : s .phase ≡ Phase.Run → RunRule bound (endOf s) f s → Reach bound s
@@ -201,50 +201,50 @@ module _ (bound : ℕ) (two : 2 ≤ bound) (s : Transfer) where
   reaches (inr w) = reach-at (s .phase) refl (w .k) (w .f) (w .base) (w .rule)
 
   -- some calls leave a state that passes the test
-  pub reached : rules bound s ≡ true → Reach bound s
+  pub reached : keepsRules bound s ≡ true → Reach bound s
   reached e = reaches (rules-good bound s e)
 
-pub keeps-rules : (bound : ℕ) (cs : List Call) → rules bound (run bound cs before) ≡ true
-keeps-rules bound cs = good-rules bound (run bound cs before) (run-good bound cs before (inl refl))
+pub keeps-rules : (bound : ℕ) (cs : List Call) → keepsRules bound (run bound cs unstarted) ≡ true
+keeps-rules bound cs = good-rules bound (run bound cs unstarted) (run-good bound cs unstarted (inl refl))
 
 -- a call of the state before START leaves it, unless it is a START that is taken
 module _ (bound : ℕ) (s : Transfer) where
-  unstarted : rules bound before ≡ true
-  unstarted = good-rules bound before (inl refl)
+  unstarted-good : keepsRules bound unstarted ≡ true
+  unstarted-good = good-rules bound unstarted (inl refl)
 
-  first-start : (b n m r : ℕ) (cs : List Call) (t : Bool) → inRange b n m r ≡ t → run bound cs (stepOf bound (start b n m r) before .state) ≡ s
-      → (run bound cs before ≡ s → Reachable bound s) → Reachable bound s
+  first-start : (b n m r : ℕ) (cs : List Call) (t : Bool) → inRange b n m r ≡ t → run bound cs (stepOf bound (start b n m r) unstarted .state) ≡ s
+      → (run bound cs unstarted ≡ s → Reachable bound s) → Reachable bound s
   unfolding stepOf startStep
   first-start b n m r cs true q e rest =
-      inr (record { b = b; n = n; m = m; r = r; taken = rw (q, unstarted); calls = cs; leave = e })
+      inr (record { b = b; n = n; m = m; r = r; taken = rw (q, unstarted-good); calls = cs; leave = e })
   first-start b n m r cs false q e rest = rest (rw q at e)
 
-  first-other : (c : Call) (cs : List Call) → stepOf bound c before .state ≡ before
-      → run bound cs (stepOf bound c before .state) ≡ s → run bound cs before ≡ s
+  first-other : (c : Call) (cs : List Call) → stepOf bound c unstarted .state ≡ unstarted
+      → run bound cs (stepOf bound c unstarted .state) ≡ s → run bound cs unstarted ≡ s
   first-other c cs e r = ap (λ (t : Transfer). run bound cs t) (sym e) ∙ r
 
-  in-words : (cs : List Call) → run bound cs before ≡ s → Reachable bound s
+  in-words : (cs : List Call) → run bound cs unstarted ≡ s → Reachable bound s
   unfolding stepOf frameStep ackStep nakStep dropStep endStep
   in-words [] e = inl (sym e)
   in-words (start b n m r ∷ cs) e = first-start b n m r cs (inRange b n m r) refl e (in-words cs)
-  in-words (frame ∷ cs) e = in-words cs (first-other frame cs (rw unstarted) e)
-  in-words (ack ∷ cs) e = in-words cs (first-other ack cs (rw unstarted) e)
-  in-words (nak ∷ cs) e = in-words cs (first-other nak cs (rw unstarted) e)
-  in-words (timeout ∷ cs) e = in-words cs (first-other timeout cs (rw unstarted) e)
-  in-words (lost ∷ cs) e = in-words cs (first-other lost cs (rw unstarted) e)
-  in-words (nexus ∷ cs) e = in-words cs (first-other nexus cs (rw unstarted) e)
-  in-words (cancel ∷ cs) e = in-words cs (first-other cancel cs (rw unstarted) e)
+  in-words (frame ∷ cs) e = in-words cs (first-other frame cs (rw unstarted-good) e)
+  in-words (ack ∷ cs) e = in-words cs (first-other ack cs (rw unstarted-good) e)
+  in-words (nak ∷ cs) e = in-words cs (first-other nak cs (rw unstarted-good) e)
+  in-words (timeout ∷ cs) e = in-words cs (first-other timeout cs (rw unstarted-good) e)
+  in-words (lost ∷ cs) e = in-words cs (first-other lost cs (rw unstarted-good) e)
+  in-words (nexus ∷ cs) e = in-words cs (first-other nexus cs (rw unstarted-good) e)
+  in-words (cancel ∷ cs) e = in-words cs (first-other cancel cs (rw unstarted-good) e)
 
   -- what some START and calls leave passes the test
-  pub sound : Reachable bound s → rules bound s ≡ true
+  pub sound : Reachable bound s → keepsRules bound s ≡ true
   unfolding stepOf
   sound (inl z) = good-rules bound s (inl z)
-  sound (inr l) = subst (λ (t : Transfer). rules bound t ≡ true) (l .leave) (keeps-rules bound (start (l .b) (l .n) (l .m) (l .r) ∷ l .calls))
+  sound (inr l) = subst (λ (t : Transfer). keepsRules bound t ≡ true) (l .leave) (keeps-rules bound (start (l .b) (l .n) (l .m) (l .r) ∷ l .calls))
 
   -- a state that passes the test is the one before START, or some START and calls leave it
-  pub complete : 2 ≤ bound → rules bound s ≡ true → Reachable bound s
+  pub complete : 2 ≤ bound → keepsRules bound s ≡ true → Reachable bound s
   complete two e = let r = reached bound two s e in in-words (r .0) (r .1)
 
 -- the test takes exactly the states that are that before START or that some START and calls after it leave
-pub exact : (bound : ℕ) → 2 ≤ bound → (s : Transfer) → (rules bound s ≡ true) ↔ Reachable bound s
+pub exact : (bound : ℕ) → 2 ≤ bound → (s : Transfer) → (keepsRules bound s ≡ true) ↔ Reachable bound s
 exact bound two s = (complete bound s two, sound bound s)

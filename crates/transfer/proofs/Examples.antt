@@ -6,7 +6,7 @@ use mathlib.Core.Path.{_≡_, refl}
 use lib.Dec.{eqb}
 use lib.ListN.{replicate}
 use Rattle.laws.proofs.Bools.{by-test}
-use Rattle.transfer.specs.Rules.{before, placed, phaseRule, rules}
+use Rattle.transfer.specs.Rules.{unstarted, placed, phaseRule, keepsRules}
 use Rattle.transfer.specs.Steps.{limit, answered, settled, drained, acked, nacked, draining, refused, answerCauses, startStep, frameStep, ackStep, nakStep}
 use Rattle.transfer.specs.Calls.{Call, start, frame, stepOf, run}
 use Rattle.transfer.specs.Examples.{listing, listed, output, inRanges, pastRanges}
@@ -17,23 +17,23 @@ use Rattle.refusals.specs.declared.Refusal.{Refusal}
 use Rattle.refusals.proofs.Causes.{by-causes}
 
 -- 01 EXAMPLE.5
-pub p10 : listing limit 1 listed before ≡ output
-unfolding stepOf startStep frameStep ackStep nakStep settled drained acked nacked rules placed phaseRule
+pub p10 : listing limit 1 listed unstarted ≡ output
+unfolding stepOf startStep frameStep ackStep nakStep settled drained acked nacked keepsRules placed phaseRule
 p10 = refl
 
 -- 01 EXAMPLE.6
-pub p11 : let s = run limit (start 0 100 4 0 ∷ replicate 16 frame) before in (s .balance ≡ 0) × (s .unanswered ≡ 16)
-unfolding stepOf startStep frameStep rules placed phaseRule
+pub p11 : let s = run limit (start 0 100 4 0 ∷ replicate 16 frame) unstarted in (s .balance ≡ 0) × (s .unanswered ≡ 16)
+unfolding stepOf startStep frameStep keepsRules placed phaseRule
 p11 = (refl, refl)
 
 -- 01 READ.1
 -- START takes the ends of the ranges, and nothing past them
-pub takes : map (λ (c : Call). stepOf limit c before .answer) inRanges ≡ replicate 5 Answer.Ok
-unfolding stepOf startStep rules placed phaseRule
+pub takes : map (λ (c : Call). stepOf limit c unstarted .answer) inRanges ≡ replicate 5 Answer.Ok
+unfolding stepOf startStep keepsRules placed phaseRule
 takes = refl
 
-pub takes-no-more : map (λ (c : Call). stepOf limit c before .answer) pastRanges ≡ replicate 6 (Answer.Refused Refusal.Rules)
-unfolding stepOf startStep rules placed phaseRule
+pub takes-no-more : map (λ (c : Call). stepOf limit c unstarted .answer) pastRanges ≡ replicate 6 (Answer.Refused Refusal.Rules)
+unfolding stepOf startStep keepsRules placed phaseRule
 takes-no-more = refl
 
 -- 01 TRAP.1: adding an ACKed frame's bytes to the balance after an earlier NAK

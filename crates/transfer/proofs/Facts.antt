@@ -5,7 +5,7 @@ use mathlib.Core.Bool.{true, false, _&&_}
 use mathlib.Core.Logic.{_⊎_, inl, inr}
 use native.Mathlib.Omega.{arith}
 use Rattle.laws.proofs.Bools.{never}
-use Rattle.transfer.specs.Rules.{endOf, inRange, before, isNew, zeros, ordered, onGrid, placed, framesOut, attempted, phaseRule, rules}
+use Rattle.transfer.specs.Rules.{endOf, inRange, unstarted, isNew, zeros, ordered, onGrid, placed, framesOut, attempted, phaseRule, keepsRules}
 use Rattle.transfer.specs.Grounds.{InRange}
 use Rattle.transfer.specs.declared.Transfer.{Transfer}
 use Rattle.transfer.specs.declared.Phase.{Phase}
@@ -114,11 +114,11 @@ Zeros s =
     × ((s .resends ≡ 0)
     × ((s .read ≡ 0) × ((s .balance ≡ 0) × ((s .unanswered ≡ 0) × ((s .sent ≡ false) × ((s .used ≡ 0) × (s .phase ≡ Phase.New)))))))))
 
-all-zeros : (s : Transfer) → Zeros s → s ≡ before
+all-zeros : (s : Transfer) → Zeros s → s ≡ unstarted
 all-zeros s (o, (n, (m, (r, (rd, (ba, (un, (se, (us, ph))))))))) =
     λ i. record { offset = o i; count = n i; size = m i; resends = r i; read = rd i; balance = ba i; unanswered = un i; sent = se i; used = us i; phase = ph i }
 
-field-by-field : (s : Transfer) → s ≡ before → Zeros s
+field-by-field : (s : Transfer) → s ≡ unstarted → Zeros s
 field-by-field s e = (
   ap (λ (t : Transfer). t .offset) e,
   (
@@ -142,7 +142,7 @@ field-by-field s e = (
   ),
 )
 
-zeros-says : (s : Transfer) → Says (zeros s) (s ≡ before)
+zeros-says : (s : Transfer) → Says (zeros s) (s ≡ unstarted)
 zeros-says s =
     means
     (both (equal (s .offset) 0)
@@ -158,6 +158,6 @@ zeros-says s =
 abbrev pub Started : ℕ → Transfer → Type 0
 Started bound s = Placed (endOf s) s × PhaseRule bound (endOf s) (framesOut s) (s .phase) s
 
-pub rules-say : (bound : ℕ) (s : Transfer) → Says (rules bound s) ((s ≡ before) ⊎ Started bound s)
-unfolding rules
+pub rules-say : (bound : ℕ) (s : Transfer) → Says (keepsRules bound s) ((s ≡ unstarted) ⊎ Started bound s)
+unfolding keepsRules
 rules-say bound s = either (zeros-says s) (both (placed-says (endOf s) s) (phase-says bound (endOf s) (framesOut s) (s .phase) s))

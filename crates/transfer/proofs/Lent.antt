@@ -4,7 +4,7 @@ use Prim.Native.Nat.{ℕ, _≤_}
 use mathlib.Core.Bool.{true}
 use mathlib.Core.List.{List, []}
 use mathlib.Core.Path.{_≡_}
-use Rattle.transfer.specs.Rules.{before, rules}
+use Rattle.transfer.specs.Rules.{unstarted, keepsRules}
 use Rattle.transfer.specs.Calls.{Call, stepOf, run}
 use Rattle.transfer.specs.History.{Entry}
 use Rattle.transfer.specs.Log.{entriesOf, history}
@@ -20,7 +20,7 @@ DemandFrom bound s h =
     let t = run bound cs s in
     Demand3 bound t (history bound cs s h) (entriesOf bound c t) (stepOf bound c t)
 
-pub lent : (bound : ℕ) → 2 ≤ bound → (s : Transfer) → rules bound s ≡ true → (h : List Entry) × DemandFrom bound s h
+pub lent : (bound : ℕ) → 2 ≤ bound → (s : Transfer) → keepsRules bound s ≡ true → (h : List Entry) × DemandFrom bound s h
 lent bound two s kept =
     let r = reached bound two s kept in
-    (history bound (r .0) before [], λ cs c. demand-3-saved bound (r .0) cs c s (r .1))
+    (history bound (r .0) unstarted [], λ cs c. demand-3-saved bound (r .0) cs c s (r .1))

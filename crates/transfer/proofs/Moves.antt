@@ -8,7 +8,7 @@ use native.Mathlib.Omega.{arith}
 use lib.Dec.{eqb}
 use borrow.Author.Tests.{lt-leb, le-leb, eq-eqb, ne-eqb}
 use Rattle.laws.proofs.Bools.{clash}
-use Rattle.transfer.specs.Rules.{endOf, before, rules}
+use Rattle.transfer.specs.Rules.{endOf, unstarted, keepsRules}
 use Rattle.transfer.specs.Steps.{with, settled, drained, acked, nacked, dropped, startStep, frameStep, ackStep, nakStep, dropStep, endStep}
 use Rattle.transfer.specs.Calls.{start, frame, ack, nak, timeout, cancel, stepOf}
 use Rattle.transfer.specs.Grounds.{InRange}
@@ -60,18 +60,18 @@ module _ (bound : ℕ) (s : Transfer) (h : InRange (s .offset) (s .count) (s .si
   fresh-attempt k false (suc used) w = inr (refl, inr (refl, inr (omega arith)))
 
   pub idle-kept : (k : ℕ) (sent : Bool) (used : ℕ) → k * s .size < s .count → used ≤ s .resends → Fresh k sent used
-      → rules bound (at s k 0 0 sent used Phase.Run) ≡ true
+      → keepsRules bound (at s k 0 0 sent used Phase.Run) ≡ true
   idle-kept k sent used a u w =
       good-rules bound (at s k 0 0 sent used Phase.Run)
       (make bound (at s k 0 0 sent used Phase.Run) k 0 Phase.Run (base-at k 0 0 sent used Phase.Run a (omega arith) u) (omega arith, (fresh-attempt k sent used w, inl (refl, refl))) refl)
 
   pub out-kept : (k f d used : ℕ) → k * s .size < s .count → (k + f) * s .size < s .count + s .size → used ≤ s .resends → suc d ≤ f
-      → suc d ≤ bound → rules bound (at s k f (suc d) true used Phase.Run) ≡ true
+      → suc d ≤ bound → keepsRules bound (at s k f (suc d) true used Phase.Run) ≡ true
   out-kept k f d used a c u l o =
       good-rules bound (at s k f (suc d) true used Phase.Run)
       (make bound (at s k f (suc d) true used Phase.Run) k f Phase.Run (base-at k f (suc d) true used Phase.Run a c u) (omega arith, (inl (omega arith, refl), inr (omega arith, (o, l)))) refl)
 
-  pub frame-step : (k f due : ℕ) (sent : Bool) (used : ℕ) → rules bound (at s k f due sent used Phase.Run) ≡ true
+  pub frame-step : (k f due : ℕ) (sent : Bool) (used : ℕ) → keepsRules bound (at s k f due sent used Phase.Run) ≡ true
       → (k + f) * s .size < s .count → due < bound
       → stepOf bound frame (at s k f due sent used Phase.Run) .state ≡ at s k (f + 1) (due + 1) true used Phase.Run
   unfolding stepOf frameStep
@@ -81,7 +81,7 @@ module _ (bound : ℕ) (s : Transfer) (h : InRange (s .offset) (s .count) (s .si
       let e : place s (k + f) + min (s .size) (endOf s - place s (k + f)) ≡ place s (k + (f + 1)) = omega arith in
       rw (v, ne, lt-leb bound due l) (alike s e refl refl)
 
-  pub ack-one : (k f : ℕ) (sent : Bool) (used : ℕ) → rules bound (at s k f 1 sent used Phase.Run) ≡ true → (k + f) * s .size < s .count
+  pub ack-one : (k f : ℕ) (sent : Bool) (used : ℕ) → keepsRules bound (at s k f 1 sent used Phase.Run) ≡ true → (k + f) * s .size < s .count
       → stepOf bound ack (at s k f 1 sent used Phase.Run) .state ≡ at s (k + f) 0 0 sent used Phase.Run
   unfolding stepOf ackStep acked settled
   ack-one k f sent used v a =
@@ -90,57 +90,57 @@ module _ (bound : ℕ) (s : Transfer) (h : InRange (s .offset) (s .count) (s .si
       let g : place s (k + f) ≡ s .offset + (k + f) * s .size = omega arith in
       rw (v, ne) (alike s e g refl)
 
-  pub ack-more : (k f d : ℕ) (sent : Bool) (used : ℕ) → rules bound (at s k f (suc (suc d)) sent used Phase.Run) ≡ true
+  pub ack-more : (k f d : ℕ) (sent : Bool) (used : ℕ) → keepsRules bound (at s k f (suc (suc d)) sent used Phase.Run) ≡ true
       → stepOf bound ack (at s k f (suc (suc d)) sent used Phase.Run) .state ≡ at s k f (suc d) sent used Phase.Run
   unfolding stepOf ackStep acked
   ack-more k f d sent used v =
       let e : suc (suc d) - 1 ≡ suc d = omega arith in
       rw (v, ne-eqb (suc (suc d)) 0 (λ z. omega arith), ne-eqb (suc (suc d) - 1) 0 (λ z. omega arith)) (alike s refl refl e)
 
-  pub nak-one : (k f : ℕ) (sent : Bool) (used : ℕ) → rules bound (at s k f 1 sent used Phase.Run) ≡ true → used < s .resends → k * s .size < s .count
+  pub nak-one : (k f : ℕ) (sent : Bool) (used : ℕ) → keepsRules bound (at s k f 1 sent used Phase.Run) ≡ true → used < s .resends → k * s .size < s .count
       → stepOf bound nak (at s k f 1 sent used Phase.Run) .state ≡ at s k 0 0 false (used + 1) Phase.Run
   unfolding stepOf nakStep nacked drained
   nak-one k f sent used v u a =
       let e : s .offset + k * s .size ≡ place s (k + 0) = omega arith in
       rw (v, lt-leb (s .resends) used u) (alike s e refl refl)
 
-  pub nak-drain : (k f d used : ℕ) → rules bound (at s k f (suc (suc d)) true used Phase.Run) ≡ true → used < s .resends
+  pub nak-drain : (k f d used : ℕ) → keepsRules bound (at s k f (suc (suc d)) true used Phase.Run) ≡ true → used < s .resends
       → stepOf bound nak (at s k f (suc (suc d)) true used Phase.Run) .state ≡ at s k f (suc d) true used Phase.Drain
   unfolding stepOf nakStep nacked drained
   nak-drain k f d used v u =
       let e : suc (suc d) - 1 ≡ suc d = omega arith in
       rw (v, ne-eqb (suc (suc d)) 0 (λ z. omega arith), lt-leb (s .resends) used u, ne-eqb (suc (suc d) - 1) 0 (λ z. omega arith)) (alike s refl refl e)
 
-  pub nak-fail : (k f used : ℕ) → rules bound (at s k f 1 true used Phase.Run) ≡ true → s .resends ≤ used
+  pub nak-fail : (k f used : ℕ) → keepsRules bound (at s k f 1 true used Phase.Run) ≡ true → s .resends ≤ used
       → stepOf bound nak (at s k f 1 true used Phase.Run) .state ≡ at s k f 0 true used Phase.Fail
   unfolding stepOf nakStep nacked drained
   nak-fail k f used v u = rw (v, le-leb (s .resends) used u)
 
-  pub cancel-step : (k f due : ℕ) (sent : Bool) (used : ℕ) → rules bound (at s k f due sent used Phase.Run) ≡ true
+  pub cancel-step : (k f due : ℕ) (sent : Bool) (used : ℕ) → keepsRules bound (at s k f due sent used Phase.Run) ≡ true
       → stepOf bound cancel (at s k f due sent used Phase.Run) .state ≡ at s k f 0 sent used Phase.End
   unfolding stepOf endStep
   cancel-step k f due sent used v = rw v
 
-  pub ack-done : (k f used : ℕ) → rules bound (at s k f 1 true used Phase.Run) ≡ true → s .count ≤ (k + f) * s .size
+  pub ack-done : (k f used : ℕ) → keepsRules bound (at s k f 1 true used Phase.Run) ≡ true → s .count ≤ (k + f) * s .size
       → stepOf bound ack (at s k f 1 true used Phase.Run) .state ≡ done s used
   unfolding stepOf ackStep acked settled
   ack-done k f used v a =
       let e : place s (k + f) ≡ endOf s = omega arith in
       rw (v, eq-eqb (place s (k + f)) (endOf s) e) (alike s e e refl)
 
-  pub drop-step : (k f due used : ℕ) → rules bound (at s k f due true used Phase.Drain) ≡ true → 0 < due → used < s .resends → k * s .size < s .count
+  pub drop-step : (k f due used : ℕ) → keepsRules bound (at s k f due true used Phase.Drain) ≡ true → 0 < due → used < s .resends → k * s .size < s .count
       → stepOf bound timeout (at s k f due true used Phase.Drain) .state ≡ at s k 0 0 false (used + 1) Phase.Run
   unfolding stepOf dropStep dropped
   drop-step k f due used v some u a =
       let e : s .offset + k * s .size ≡ place s (k + 0) = omega arith in
       rw (v, ne-eqb due 0 (λ z. omega arith), lt-leb (s .resends) used u) (alike s e refl refl)
 
-  pub begin-step : stepOf bound (start (s .offset) (s .count) (s .size) (s .resends)) before .state ≡ at s 0 0 0 false 0 Phase.Run
+  pub begin-step : stepOf bound (start (s .offset) (s .count) (s .size) (s .resends)) unstarted .state ≡ at s 0 0 0 false 0 Phase.Run
   unfolding stepOf startStep
   begin-step =
       let e : s .offset ≡ place s (0 + 0) = omega arith in
       let g : s .offset ≡ s .offset + 0 * s .size = omega arith in
-      rw (in-range (s .offset) (s .count) (s .size) (s .resends) .1 h, good-rules bound before (inl refl)) (alike s e g refl)
+      rw (in-range (s .offset) (s .count) (s .size) (s .resends) .1 h, good-rules bound unstarted (inl refl)) (alike s e g refl)
 
 -- a state equals that of its frames
 equal : (s : Transfer) {read balance due : ℕ} {sent : Bool} {used : ℕ} {phase : Phase}

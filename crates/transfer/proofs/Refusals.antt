@@ -10,7 +10,7 @@ use Rattle.laws.proofs.Bools.{never, by-test}
 use Rattle.refusals.specs.Causes.{Cause, refuse, First, Decides, nil, cons}
 use Rattle.refusals.specs.declared.Refusal.{Refusal}
 use Rattle.refusals.proofs.Causes as causes
-use Rattle.transfer.specs.Rules.{endOf, rules}
+use Rattle.transfer.specs.Rules.{endOf, keepsRules}
 use Rattle.transfer.specs.Steps.{unfinished, draining, started, frameLength, framed, answered, allSent, settled, drained, acked, nacked, dropped}
 use Rattle.transfer.specs.Steps.{ended, refused, say, startCauses, frameCauses, answerCauses, endCauses, startStep, frameStep, ackStep, nakStep}
 use Rattle.transfer.specs.Steps.{dropStep, endStep}
@@ -114,7 +114,7 @@ taken nexus s = refl
 taken cancel s = refl
 
 module _ (bound : ℕ) (two : 2 ≤ bound) (s : Transfer) where
-  broken-says : Says (not (rules bound s)) (Broken bound s)
+  broken-says : Says (not (keepsRules bound s)) (Broken bound s)
   broken-says = unless (exact bound two s)
 
   answers : Decides (answerCauses bound s) (answerGrounds bound s)

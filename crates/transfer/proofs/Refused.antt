@@ -12,7 +12,7 @@ use Rattle.laws.proofs.Bools.{never, by-test, on-false}
 use Rattle.refusals.specs.Causes.{refuse}
 use Rattle.refusals.specs.Refusals.{numberOf}
 use Rattle.refusals.proofs.Causes.{by-causes, through}
-use Rattle.transfer.specs.Rules.{endOf, inRange, before, framesOut, rules}
+use Rattle.transfer.specs.Rules.{endOf, inRange, unstarted, framesOut, keepsRules}
 use Rattle.transfer.specs.Steps.{unfinished, draining, started, frameLength, framed, answered, allSent, settled, drained, acked, nacked, dropped, ended}
 use Rattle.transfer.specs.Steps.{refused, say, startCauses, frameCauses, answerCauses, endCauses, startStep, frameStep, ackStep, nakStep}
 use Rattle.transfer.specs.Steps.{dropStep, endStep}
@@ -99,7 +99,7 @@ module _ (bound : ℕ) (s : Transfer) (h : List Entry) (i : Inv bound s (view h)
   lasts cancel = by-causes (Lasts s h cancel) (refused s) (λ k. l) (endCauses bound s) (ended s) (λ off. refl)
 
   -- of a state that keeps its rules
-  module _ (kept : rules bound s ≡ true) where
+  module _ (kept : keepsRules bound s ≡ true) where
     -- in run every byte was sent in the attempt exactly if its last frame ends at B+N
     all-sent-is : s .phase ≡ Phase.Run → unfinished (s .phase) ≡ true → allSent s ≡ whole (askedOf s) h
     all-sent-is p u = by (view h .attempt) refl
@@ -165,5 +165,5 @@ all-last bound [] s h i w l = l
 all-last bound (c ∷ cs) s h i w l =
     all-last bound cs (stepOf bound c s .state) (entriesOf bound c s ++ h) (keeps bound s h i c) (tallies bound s h i w c) (lasts bound s h i w l c)
 
-pub lived : (bound : ℕ) (cs : List Call) → Lives (run bound cs before) (history bound cs before [])
-lived bound cs = all-last bound cs before [] (at-first bound) at-start refl
+pub lived : (bound : ℕ) (cs : List Call) → Lives (run bound cs unstarted) (history bound cs unstarted [])
+lived bound cs = all-last bound cs unstarted [] (at-first bound) at-start refl

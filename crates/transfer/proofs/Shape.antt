@@ -8,7 +8,7 @@ use native.Mathlib.Omega.{arith}
 use native.Mathlib.Nat.{div-add-mod', div-mul-le-self, lt-div-mul-add, div-eq-of-lt-le, le-of-mul-le-mul-right, mul-mod-left}
 use lib.Dec.{eqb}
 use borrow.Author.Tests.{eqb-true, eqb-false}
-use Rattle.transfer.specs.Rules.{endOf, before, frames, framesOut, rules}
+use Rattle.transfer.specs.Rules.{endOf, unstarted, frames, framesOut, keepsRules}
 use Rattle.transfer.specs.Grounds.{InRange}
 use Rattle.transfer.specs.declared.Transfer.{Transfer}
 use Rattle.transfer.proofs.Facts.{OnGrid, Placed, PhaseRule, Started, rules-say}
@@ -160,10 +160,10 @@ module _ (s : Transfer) (p : Placed (endOf s) s) where
 
 -- the test, by frames
 abbrev pub Good : ℕ → Transfer → Type 0
-Good bound s = (s ≡ before) ⊎ Live bound s
+Good bound s = (s ≡ unstarted) ⊎ Live bound s
 
 module _ (bound : ℕ) (s : Transfer) where
-  pub rules-good : rules bound s ≡ true → Good bound s
+  pub rules-good : keepsRules bound s ≡ true → Good bound s
   rules-good e = ⊎-elim (λ z. inl z) (λ (h : Started bound s). inr (live h (found s (h .0)))) (rules-say bound s .0 e)
     where
       live : Started bound s → Found s → Live bound s
@@ -175,7 +175,7 @@ module _ (bound : ℕ) (s : Transfer) where
             rule = subst (λ (d : ℕ). PhaseRule bound (endOf s) d (s .phase) s) (base-frames s (w .k) (w .f) (w .base)) (h .1);
           }
 
-  pub good-rules : Good bound s → rules bound s ≡ true
+  pub good-rules : Good bound s → keepsRules bound s ≡ true
   good-rules g = rules-say bound s .1 (⊎-elim (λ z. inl z) (λ (w : Live bound s). inr (started w)) g)
     where
       started : Live bound s → Started bound s

@@ -11,7 +11,7 @@ use borrow.Author.Tests.{eqb-true, eqb-false, leb-true, leb-false, not-false}
 use Rattle.laws.proofs.Bools.{never, by-test, nor}
 use Rattle.refusals.specs.Causes.{refuse}
 use Rattle.refusals.specs.declared.Refusal.{Refusal}
-use Rattle.transfer.specs.Rules.{endOf, before}
+use Rattle.transfer.specs.Rules.{endOf, unstarted}
 use Rattle.transfer.specs.Steps.{unfinished, draining, started, frameLength, framed, finished, answered, balanced, allSent, settled, drained}
 use Rattle.transfer.specs.Steps.{acked, nacked, dropped, ended, inPhase, refused, with, say, startCauses, frameCauses, answerCauses, endCauses}
 use Rattle.transfer.specs.Steps.{startStep, frameStep, ackStep, nakStep, dropStep, endStep}
@@ -168,7 +168,7 @@ module _ (bound : ℕ) (s : Transfer) (w : Live bound s) where
 module _ (bound : ℕ) (s : Transfer) (i : Good bound s) where
   -- an unfinished state has started
   pub live : unfinished (s .phase) ≡ true → Live bound s
-  live u = ⊎-elim (λ (z : s ≡ before). absurd (never (ap (λ (t : Transfer). unfinished (t .phase)) (sym z) ∙ u))) (λ (w : Live bound s). w) i
+  live u = ⊎-elim (λ (z : s ≡ unstarted). absurd (never (ap (λ (t : Transfer). unfinished (t .phase)) (sym z) ∙ u))) (λ (w : Live bound s). w) i
 
   -- no refusal moves the state
   stays : (k : Refusal) → Leaves bound (refused s k)

@@ -9,7 +9,7 @@ use native.Mathlib.Omega.{arith}
 use lib.Dec.{ltb}
 use borrow.Author.Tests.{ltb-true, ltb-false}
 use Rattle.laws.proofs.Bools.{impossible}
-use Rattle.transfer.specs.Rules.{endOf, frames, rules}
+use Rattle.transfer.specs.Rules.{endOf, frames, keepsRules}
 use Rattle.transfer.specs.Steps.{unfinished}
 use Rattle.transfer.specs.Calls.{Call, frame, ack, timeout, stepOf, run, Reachable, Finishes}
 use Rattle.transfer.specs.Grounds.{InRange}
@@ -32,7 +32,7 @@ module _ (bound : ℕ) (two : 2 ≤ bound) (s : Transfer) (h : InRange (s .offse
       → ((k + f) * s .size < s .count → Finishes bound (at s (k + f) 0 0 true used Phase.Run)) → Finishes bound (at s k f 1 true used Phase.Run)
   last-ack k f used a c u l more = go (ltb ((k + f) * s .size) (s .count)) refl
     where
-      kept : rules bound (at s k f 1 true used Phase.Run) ≡ true
+      kept : keepsRules bound (at s k f 1 true used Phase.Run) ≡ true
       kept = out-kept bound s h k f 0 used a c u l (omega arith)
 
       go : (t : Bool) → ltb ((k + f) * s .size) (s .count) ≡ t → Finishes bound (at s k f 1 true used Phase.Run)
@@ -81,13 +81,13 @@ module _ (bound : ℕ) (two : 2 ≤ bound) (s : Transfer) (k f : ℕ) (h : BaseO
       subst (Finishes bound) (out-is s k f h room (suc (s .unanswered - 1)) (omega arith) (sent-by f s (omega arith) a) Phase.Run (sym e))
       (out bound two s (h .setup) (s .unanswered - 1) k f (s .used) (inside s k f h room) (h .real) (omega arith) (omega arith) (h .tried))
 
-  in-drain : DrainRule bound (endOf s) f s → s .phase ≡ Phase.Drain → rules bound s ≡ true → Finishes bound s
+  in-drain : DrainRule bound (endOf s) f s → s .phase ≡ Phase.Drain → keepsRules bound s ≡ true → Finishes bound s
   in-drain (room, (sent, (again, (some, (few, most))))) e kept =
       let is = out-is s k f h room (s .unanswered) refl sent Phase.Drain (sym e) in
       let near = inside s k f h room in
       subst (Finishes bound) is
       (by-call bound (at s k f (s .unanswered) true (s .used) Phase.Drain) (at s k 0 0 false (s .used + 1) Phase.Run) timeout
-      (drop-step bound s (h .setup) k f (s .unanswered) (s .used) (subst (λ (t : Transfer). rules bound t ≡ true) (sym is) kept) some again near)
+      (drop-step bound s (h .setup) k f (s .unanswered) (s .used) (subst (λ (t : Transfer). keepsRules bound t ≡ true) (sym is) kept) some again near)
       (idle bound two s (h .setup) (frames (s .count) (s .size)) k false (s .used + 1) near (enough bound two s (h .setup) k) (omega arith)
       (record { moved = impossible; still = λ t z. absurd (omega arith) })))
 
@@ -95,7 +95,7 @@ module _ (bound : ℕ) (two : 2 ≤ bound) (s : Transfer) (k f : ℕ) (h : BaseO
 pub unstuck : (bound : ℕ) → 2 ≤ bound → (s : Transfer) → Reachable bound s → unfinished (s .phase) ≡ true → Finishes bound s
 unstuck bound two s r u = by-phase (work (s .phase) u)
   where
-    kept : rules bound s ≡ true
+    kept : keepsRules bound s ≡ true
     kept = sound bound s r
 
     lives : Live bound s

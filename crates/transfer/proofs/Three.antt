@@ -13,7 +13,7 @@ use Rattle.laws.proofs.Tests.{unless}
 use Rattle.refusals.specs.Causes.{Cause, _when_, refuse}
 use Rattle.refusals.specs.Refusals.{numberOf}
 use Rattle.refusals.specs.declared.Refusal.{Refusal}
-use Rattle.transfer.specs.Rules.{inRange, rules}
+use Rattle.transfer.specs.Rules.{inRange, keepsRules}
 use Rattle.transfer.specs.Steps.{started, refused, say, startCauses, frameCauses, answerCauses, endCauses, startStep}
 use Rattle.transfer.specs.Calls.{Call, start, frame, ack, nak, timeout, lost, nexus, cancel, stepOf}
 use Rattle.transfer.specs.Grounds.{OutOfRange}
@@ -58,8 +58,8 @@ module _ (bound : ℕ) (s : Transfer) where
   others (c ∷ cs) a other e = by-test (λ (st : Stepped). isThree (st .answer) ≡ false) (c .given) (λ t. other .0) (λ t. others cs a (other .1) e)
 
   -- what a call checks of a state that keeps its rules
-  module _ (kept : rules bound s ≡ true) where
-    pub unbroken : (cs : List Cause) (a : Stepped) → Others cs → isRefused (a .answer) ≡ false → isThree (refuse (refused s) ((Refusal.Rules when not (rules bound s)) ∷ cs) a .answer) ≡ false
+  module _ (kept : keepsRules bound s ≡ true) where
+    pub unbroken : (cs : List Cause) (a : Stepped) → Others cs → isRefused (a .answer) ≡ false → isThree (refuse (refused s) ((Refusal.Rules when not (keepsRules bound s)) ∷ cs) a .answer) ≡ false
     unbroken cs a other e = rw kept (others cs a other e)
 
     -- START's own numbers
@@ -78,7 +78,7 @@ module _ (bound : ℕ) (s : Transfer) where
         (λ e. out .0 (sym (ranged b n m r) ∙ ap isThree e), λ h. rw (not-true (inRange b n m r) (out .1 h)))
 
     -- the other calls
-    quiet : (c : Call) (cs : List Cause) → causesOf bound c s ≡ (Refusal.Rules when not (rules bound s)) ∷ cs → Others cs → isThree (stepOf bound c s .answer) ≡ false
+    quiet : (c : Call) (cs : List Cause) → causesOf bound c s ≡ (Refusal.Rules when not (keepsRules bound s)) ∷ cs → Others cs → isThree (stepOf bound c s .answer) ≡ false
     quiet c cs e other =
         ap (λ (st : Stepped). isThree (st .answer)) (step-is bound c s) ∙ (λ i. isThree (refuse (refused s) (e i) (goesOn c s) .answer)) ∙ unbroken cs (goesOn c s) other (taken c s)
 

@@ -13,7 +13,7 @@ use Rattle.laws.proofs.Bools.{clash, impossible, by-test}
 use Rattle.refusals.specs.Causes.{refuse}
 use Rattle.refusals.specs.declared.Refusal.{Refusal}
 use Rattle.refusals.proofs.Causes.{by-causes}
-use Rattle.transfer.specs.Rules.{endOf, before}
+use Rattle.transfer.specs.Rules.{endOf, unstarted}
 use Rattle.transfer.specs.Steps.{unfinished, draining, started, frameLength, framed, resent, noneLeft, finished, answered, allSent, settled, drained, acked, nacked, dropped}
 use Rattle.transfer.specs.Steps.{ended, refused, say, startCauses, frameCauses, answerCauses, endCauses, startStep, frameStep, ackStep, nakStep}
 use Rattle.transfer.specs.Steps.{dropStep, endStep}
@@ -236,11 +236,11 @@ all-tallied : (bound : ℕ) (cs : List Call) (s : Transfer) (h : List Entry) →
 all-tallied bound [] s h i w = w
 all-tallied bound (c ∷ cs) s h i w = all-tallied bound cs (stepOf bound c s .state) (entriesOf bound c s ++ h) (keeps bound s h i c) (tallies bound s h i w c)
 
-pub at-start : Tally before []
+pub at-start : Tally unstarted []
 at-start = over refl refl
 
-pub tallied : (bound : ℕ) (cs : List Call) → Tally (run bound cs before) (history bound cs before [])
-tallied bound cs = all-tallied bound cs before [] (at-first bound) at-start
+pub tallied : (bound : ℕ) (cs : List Call) → Tally (run bound cs unstarted) (history bound cs unstarted [])
+tallied bound cs = all-tallied bound cs unstarted [] (at-first bound) at-start
 
 -- while unfinished the read offset is the end of the attempt's last frame, or the balance point where none was sent
 pub read-is : (bound : ℕ) (s : Transfer) (h : List Entry) → Inv bound s (view h) → Tally s h → unfinished (s .phase) ≡ true → s .read ≡ lastEnd (s .balance) (view h .attempt)

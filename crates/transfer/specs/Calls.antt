@@ -3,7 +3,7 @@ use Prim.Native.Nat.{ℕ}
 use mathlib.Core.Path.{_≡_}
 use mathlib.Core.List.{List, [], _∷_}
 use mathlib.Core.Logic.{_⊎_}
-use Rattle.transfer.specs.Rules.{before}
+use Rattle.transfer.specs.Rules.{unstarted}
 use Rattle.transfer.specs.Steps.{startStep, frameStep, ackStep, nakStep, dropStep, endStep}
 use Rattle.transfer.specs.declared.Transfer.{Transfer}
 use Rattle.transfer.specs.declared.Stepped.{Stepped}
@@ -35,13 +35,13 @@ pub record Left (bound : ℕ) (s : Transfer) : Type 0 where
   pub n : ℕ
   pub m : ℕ
   pub r : ℕ
-  pub taken : startStep bound b n m r before .answer ≡ Answer.Ok
+  pub taken : startStep bound b n m r unstarted .answer ≡ Answer.Ok
   pub calls : List Call
-  pub leave : run bound calls (startStep bound b n m r before .state) ≡ s
+  pub leave : run bound calls (startStep bound b n m r unstarted .state) ≡ s
 
 -- s is the state before START, or what some START and calls after it leave
 abbrev pub Reachable : ℕ → Transfer → Type 0
-Reachable bound s = (s ≡ before) ⊎ Left bound s
+Reachable bound s = (s ≡ unstarted) ⊎ Left bound s
 
 -- some calls deliver all
 abbrev pub Finishes : ℕ → Transfer → Type 0

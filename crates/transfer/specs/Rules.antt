@@ -15,8 +15,8 @@ abbrev pub inRange : ℕ → ℕ → ℕ → ℕ → Bool
 inRange b n m r = leb 1 n && (leb (b + n) 4294967295 && (eqb (m % 4) 0 && (leb 4 m && (leb m 1024 && leb r 255))))
 
 -- the state before START
-abbrev pub before : Transfer
-before = record { offset = 0; count = 0; size = 0; resends = 0; read = 0; balance = 0; unanswered = 0; sent = false; used = 0; phase = Phase.New }
+abbrev pub unstarted : Transfer
+unstarted = record { offset = 0; count = 0; size = 0; resends = 0; read = 0; balance = 0; unanswered = 0; sent = false; used = 0; phase = Phase.New }
 
 abbrev pub isNew : Phase → Bool
 isNew Phase.New = true
@@ -89,5 +89,5 @@ phaseRule bound e d Phase.Fail s = failRule e d s
 phaseRule bound e d Phase.End s = endRule e d s
 
 -- 01 READ.16: A transfer state's rules: it is that before START, all zeros, or what some START and calls after it leave; the test is proved exact.
-unfoldable pub rules : ℕ → Transfer → Bool
-rules bound s = zeros s || (placed (endOf s) s && phaseRule bound (endOf s) (framesOut s) (s .phase) s)
+unfoldable pub keepsRules : ℕ → Transfer → Bool
+keepsRules bound s = zeros s || (placed (endOf s) s && phaseRule bound (endOf s) (framesOut s) (s .phase) s)

@@ -5,7 +5,7 @@ use mathlib.Core.List.{List, [], _∷_}
 use lib.Dec.{leb, eqb}
 use Rattle.refusals.specs.Causes.{Cause, _when_, refuse}
 use Rattle.refusals.specs.declared.Refusal.{Refusal}
-use Rattle.transfer.specs.Rules.{endOf, inRange, rules}
+use Rattle.transfer.specs.Rules.{endOf, inRange, keepsRules}
 use Rattle.transfer.specs.declared.Transfer.{Transfer}
 use Rattle.transfer.specs.declared.Stepped.{Stepped}
 use Rattle.transfer.specs.declared.Answer.{Answer}
@@ -121,7 +121,7 @@ ended s = finished Answer.End Phase.End s
 -- 01 REFUSAL.3: a setup number is out of range, or a lent state breaks its rules
 -- 01 REFUSAL.13: 6, exactly: a frame, answer (ACK, NAK, TIMEOUT, LOST), NEXUS or CANCEL before START or once finished; an answer with none unanswered; START in an unfinished transfer
 abbrev pub startCauses : ℕ → ℕ → ℕ → ℕ → ℕ → Transfer → List Cause
-startCauses bound b n m r s = (Refusal.Rules when (not (inRange b n m r) || not (rules bound s))) ∷ (Refusal.Unfit when unfinished (s .phase)) ∷ []
+startCauses bound b n m r s = (Refusal.Rules when (not (inRange b n m r) || not (keepsRules bound s))) ∷ (Refusal.Unfit when unfinished (s .phase)) ∷ []
 
 -- 01 REFUSAL.7: a NAK was seen and answers are still due
 -- 01 REFUSAL.8: every byte has been sent in this attempt
@@ -129,7 +129,7 @@ startCauses bound b n m r s = (Refusal.Rules when (not (inRange b n m r) || not 
 -- 01 REFUSAL.13
 abbrev pub frameCauses : ℕ → Transfer → List Cause
 frameCauses bound s =
-    (Refusal.Rules when not (rules bound s))
+    (Refusal.Rules when not (keepsRules bound s))
     ∷ (Refusal.Unfit when not (unfinished (s .phase)))
     ∷ (Refusal.Due when draining (s .phase))
     ∷ (Refusal.Sent when allSent s)
@@ -138,11 +138,11 @@ frameCauses bound s =
 
 -- 01 REFUSAL.13
 abbrev pub answerCauses : ℕ → Transfer → List Cause
-answerCauses bound s = (Refusal.Rules when not (rules bound s)) ∷ (Refusal.Unfit when (not (unfinished (s .phase)) || eqb (s .unanswered) 0)) ∷ []
+answerCauses bound s = (Refusal.Rules when not (keepsRules bound s)) ∷ (Refusal.Unfit when (not (unfinished (s .phase)) || eqb (s .unanswered) 0)) ∷ []
 
 -- 01 REFUSAL.13
 abbrev pub endCauses : ℕ → Transfer → List Cause
-endCauses bound s = (Refusal.Rules when not (rules bound s)) ∷ (Refusal.Unfit when not (unfinished (s .phase))) ∷ []
+endCauses bound s = (Refusal.Rules when not (keepsRules bound s)) ∷ (Refusal.Unfit when not (unfinished (s .phase))) ∷ []
 
 unfoldable pub startStep : ℕ → ℕ → ℕ → ℕ → ℕ → Transfer → Stepped
 startStep bound b n m r s = refuse (refused s) (startCauses bound b n m r s) (say Answer.Ok (started b n m r))

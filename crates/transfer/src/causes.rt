@@ -14,7 +14,7 @@ impl Transfer {
     pub(crate) fn frame_checked(self) -> Checked
         ensures { λ a. ⌜ a ≡ refuse Checked.Refused (frameCauses limit self) Checked.Passed ⌝ }
     {
-        if !self.taken(BOUND) {
+        if !self.keeps_rules(BOUND) {
             return Checked::Refused(Refusal::Rules);
         }
         let p = self.phase;
@@ -37,7 +37,7 @@ impl Transfer {
     pub(crate) fn answer_checked(self) -> Checked
         ensures { λ a. ⌜ a ≡ refuse Checked.Refused (answerCauses limit self) Checked.Passed ⌝ }
     {
-        if !self.taken(BOUND) {
+        if !self.keeps_rules(BOUND) {
             return Checked::Refused(Refusal::Rules);
         }
         let p = self.phase;

@@ -1,6 +1,6 @@
 // Document 01, 'Read transfer': the transfer's state, which goes in and comes back by value, and a method for each call.
 ghost use mathlib.Core.Path.{_≡_};
-ghost use Rattle.transfer.specs.Rules.{before};
+ghost use Rattle.transfer.specs.Rules.{unstarted};
 ghost use Rattle.transfer.specs.Steps.{limit, startStep, frameStep, ackStep, nakStep, dropStep, endStep};
 use refusals::Checked;
 use refusals::Refusal;
@@ -74,7 +74,7 @@ const BOUND: u32 = 64;
 impl Transfer {
     // The state before START.
     pub fn unstarted() -> Transfer
-        ensures { λ a. ⌜ a ≡ before ⌝ }
+        ensures { λ a. ⌜ a ≡ unstarted ⌝ }
     {
         Transfer {
             offset: 0,
@@ -93,7 +93,7 @@ impl Transfer {
     pub fn start(mut self, b: u32, n: u32, m: u32, r: u32) -> Stepped
         ensures { λ a. ⌜ a ≡ startStep limit b n m r self ⌝ }
     {
-        if !rules::in_range(b, n, m, r) | !self.taken(BOUND) {
+        if !rules::in_range(b, n, m, r) | !self.keeps_rules(BOUND) {
             return self.refused(Refusal::Rules);
         }
         let p = self.phase;
@@ -191,7 +191,7 @@ impl Transfer {
     pub fn cancel(mut self) -> Stepped
         ensures { λ a. ⌜ a ≡ endStep limit self ⌝ }
     {
-        if !self.taken(BOUND) {
+        if !self.keeps_rules(BOUND) {
             return self.refused(Refusal::Rules);
         }
         let p = self.phase;

@@ -1,7 +1,7 @@
 // The numbers that START takes, and the test of a lent state, rule by rule.
 ghost use mathlib.Core.Path.{_≡_};
 ghost use Prim.Native.Nat.{_≤_};
-ghost use Rattle.transfer.specs.Rules.{endOf, inRange, isNew, zeros, ordered, onGrid, placed, framesOut, attempted, runRule, drainRule, doneRule, failRule, endRule, phaseRule, rules};
+ghost use Rattle.transfer.specs.Rules.{endOf, inRange, isNew, zeros, ordered, onGrid, placed, framesOut, attempted, runRule, drainRule, doneRule, failRule, endRule, phaseRule, keepsRules};
 use crate::Phase;
 use crate::Transfer;
 
@@ -162,8 +162,8 @@ impl Transfer {
 
     // Whether the state is that before START, or some START and calls after it leave it, where at most `bound` frames, 2 or more, may
     // be unanswered.
-    pub fn taken(self, bound: u32) -> bool
-        ensures { λ a. ⌜ a ≡ rules bound self ⌝ }
+    pub fn keeps_rules(self, bound: u32) -> bool
+        ensures { λ a. ⌜ a ≡ keepsRules bound self ⌝ }
     {
         let zeros = self.zeros();
         let end = self.end();

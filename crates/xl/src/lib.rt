@@ -117,7 +117,7 @@ fn brings_unlisted(e: Event, f: OpenFrame) -> bool
 }
 
 // Tests the event and the state, and takes the event.
-fn answers(s: State, e: Event, f: OpenFrame) -> Stepped
+fn step_of(s: State, e: Event, f: OpenFrame) -> Stepped
     ensures { λ r. ⌜ r ≡ stepOf f e s ⌝ }
 {
     if brings_unlisted(e, f) {
@@ -175,7 +175,7 @@ fn anew(r: Stepped) -> Stepped
 pub fn step(state: State, event: Event, frame: OpenFrame) -> Stepped
     ensures { λ r. ⌜ r ≡ stepOf frame event state ⌝ }
 {
-    anew(answers(state, event, frame))
+    anew(step_of(state, event, frame))
 }
 
 // Why a frame was not read; a frame that was read has no such reason, and nobody asks.

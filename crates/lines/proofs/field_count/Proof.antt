@@ -37,7 +37,10 @@ loop-less : tie.Need-loop-less Inv-loop μ-loop
 loop-less c = omega arith
 
 loop-again : tie.Need-loop-again Inv-loop μ-loop
-loop-again c = (omega arith, omega (arith, c .before .before .before .loop .inv .1, c .tabs .ensures .1), ap (λ n. (c .before .before .before .loop .n + n) + length (fieldsOf (drop (c .before .before .before .loop .i + 1) (c .before .before .before .before .before .before .args .s .now)))) (c .tabs .ensures .0) ∙ count-on (c .before .before .before .before .before .before .args .s .now) (c .before .before .before .loop .i) (c .before .before .before .loop .n) (c .before .before .loop-test .taken) (c .before .before .before .loop .inv .2))
+loop-again c =
+    let at-loop = c .before .before .before in
+    let start = at-loop .before .before .before in
+    (omega arith, omega (arith, at-loop .loop .inv .1, c .tabs .ensures .1), ap (λ n. (at-loop .loop .n + n) + length (fieldsOf (drop (at-loop .loop .i + 1) (start .args .s .now)))) (c .tabs .ensures .0) ∙ count-on (start .args .s .now) (at-loop .loop .i) (at-loop .loop .n) (c .before .before .loop-test .taken) (at-loop .loop .inv .2))
 
 returns-2 : tie.Need-returns-2 Inv-loop μ-loop
 returns-2 c = counted (c .before .before .before .before .args .s .now) (c .before .loop .i) (c .before .loop .n) (c .loop-test .left) (c .before .loop .inv .2) ∙ sym (ap length (within (c .before .before .before .before .args .longest) (c .before .before .before .before .args .s .now) (c .before .before .if1 .left)))

@@ -59,7 +59,12 @@ same-length : tie.Need-same-length Inv-loop μ-loop
 same-length c = kept (c .before .before .put-bytes .ensures)
 
 returns : tie.Need-returns Inv-loop μ-loop
-returns c = subst (λ xs. Put (c .before .before .before .before .before .before .before .before .before .before .args .out .now) (c .before .before .before .before .before .before .before .before .before .before .args .at) xs (c .before .before .put-bytes .result) (c .before .before .put-bytes .last .1 .0)) (spelled-all (c .before .before .before .before .before .before .before .before .loop .inv) (c .before .before .before .before .before .before .before .loop-test .left) _ (c .before .before .before .before .before .before .glyph2 .ensures)) (c .before .before .put-bytes .ensures)
+returns c =
+    let at-glyph2 = c .before .before .before .before .before .before in
+    let in-loop = at-glyph2 .before in
+    let at-loop = in-loop .before in
+    let start = at-loop .before .before in
+    subst (λ xs. Put (start .args .out .now) (start .args .at) xs (c .before .before .put-bytes .result) (c .before .before .put-bytes .last .1 .0)) (spelled-all (at-loop .loop .inv) (in-loop .loop-test .left) _ (at-glyph2 .glyph2 .ensures)) (c .before .before .put-bytes .ensures)
 
 pub put-number-spec : {M : Type 1} → statement M
 put-number-spec =

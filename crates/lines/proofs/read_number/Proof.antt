@@ -37,13 +37,26 @@ digit-requires : tie.Need-digit-requires Inv-loop μ-loop
 digit-requires c κs = tt
 
 returns-3 : tie.Need-returns-3 Inv-loop μ-loop
-returns-3 c = sym (c .before .before .before .before .loop .inv .2 ∙ turn-other (c .before .before .before .before .before .before .before .before .before .args .most) (c .before .before .before .before .before .before .before .before .before .args .s .now) (c .before .before .before .before .loop .v) (c .before .before .before .before .loop .i) (c .before .digit .result) (c .before .before .before .loop-test .taken) (c .before .digit .ensures) (c .if3 .taken))
+returns-3 c =
+    let in-loop = c .before .before .before in
+    let at-loop = in-loop .before in
+    let start = at-loop .before .before .before .before .before in
+    sym (at-loop .loop .inv .2 ∙ turn-other (start .args .most) (start .args .s .now) (at-loop .loop .v) (at-loop .loop .i) (c .before .digit .result) (in-loop .loop-test .taken) (c .before .digit .ensures) (c .if3 .taken))
 
 returns-4 : tie.Need-returns-4 Inv-loop μ-loop
-returns-4 c = sym (c .before .before .before .before .before .loop .inv .2 ∙ turn-large (c .before .before .before .before .before .before .before .before .before .before .args .most) (c .before .before .before .before .before .before .before .before .before .before .args .s .now) (c .before .before .before .before .before .loop .v) (c .before .before .before .before .before .loop .i) (c .before .before .digit .result) (c .before .before .before .before .loop-test .taken) (c .before .before .digit .ensures) (c .before .if3 .left) (omega (arith, c .if4 .taken)))
+returns-4 c =
+    let in-loop = c .before .before .before .before in
+    let at-loop = in-loop .before in
+    let start = at-loop .before .before .before .before .before in
+    sym (at-loop .loop .inv .2 ∙ turn-large (start .args .most) (start .args .s .now) (at-loop .loop .v) (at-loop .loop .i) (c .before .before .digit .result) (in-loop .loop-test .taken) (c .before .before .digit .ensures) (c .before .if3 .left) (omega (arith, c .if4 .taken)))
 
 returns-5 : tie.Need-returns-5 Inv-loop μ-loop
-returns-5 c = sym (c .before .before .before .before .before .before .loop .inv .2 ∙ turn-large (c .before .before .before .before .before .before .before .before .before .before .before .args .most) (c .before .before .before .before .before .before .before .before .before .before .before .args .s .now) (c .before .before .before .before .before .before .loop .v) (c .before .before .before .before .before .before .loop .i) (c .before .before .before .digit .result) (c .before .before .before .before .before .loop-test .taken) (c .before .before .before .digit .ensures) (c .before .before .if3 .left) (omega (arith, c .if5 .taken, c .before .if4 .left)))
+returns-5 c =
+    let at-digit = c .before .before .before in
+    let in-loop = at-digit .before .before in
+    let at-loop = in-loop .before in
+    let start = at-loop .before .before .before .before .before in
+    sym (at-loop .loop .inv .2 ∙ turn-large (start .args .most) (start .args .s .now) (at-loop .loop .v) (at-loop .loop .i) (at-digit .digit .result) (in-loop .loop-test .taken) (at-digit .digit .ensures) (c .before .before .if3 .left) (omega (arith, c .if5 .taken, c .before .if4 .left)))
 
 mul-v : tie.Need-mul-v Inv-loop μ-loop
 mul-v c = omega (arith, c .if5 .left, c .before .if4 .left)
@@ -58,10 +71,17 @@ loop-less : tie.Need-loop-less Inv-loop μ-loop
 loop-less c = omega arith
 
 loop-again : tie.Need-loop-again Inv-loop μ-loop
-loop-again c = (omega arith, omega (arith, c .if5 .left, c .before .if4 .left), c .before .before .before .before .before .before .loop .inv .2 ∙ turn-digit (c .before .before .before .before .before .before .before .before .before .before .before .args .most) (c .before .before .before .before .before .before .before .before .before .before .before .args .s .now) (c .before .before .before .before .before .before .loop .v) (c .before .before .before .before .before .before .loop .i) (c .before .before .before .digit .result) (c .before .before .before .before .before .loop-test .taken) (c .before .before .before .digit .ensures) (c .before .before .if3 .left))
+loop-again c =
+    let at-digit = c .before .before .before in
+    let in-loop = at-digit .before .before in
+    let at-loop = in-loop .before in
+    let start = at-loop .before .before .before .before .before in
+    (omega arith, omega (arith, c .if5 .left, c .before .if4 .left), at-loop .loop .inv .2 ∙ turn-digit (start .args .most) (start .args .s .now) (at-loop .loop .v) (at-loop .loop .i) (at-digit .digit .result) (in-loop .loop-test .taken) (at-digit .digit .ensures) (c .before .before .if3 .left))
 
 returns-6 : tie.Need-returns-6 Inv-loop μ-loop
-returns-6 c = sym (c .before .loop .inv .2 ∙ ap (readFrom (c .before .before .before .before .before .before .args .most) (c .before .loop .v)) (drop-of-length-le (c .before .before .before .before .before .before .args .s .now) (c .loop-test .left)) ∙ rw (le-leb _ _ (c .before .loop .inv .1)))
+returns-6 c =
+    let start = c .before .before .before .before .before .before in
+    sym (c .before .loop .inv .2 ∙ ap (readFrom (start .args .most) (c .before .loop .v)) (drop-of-length-le (start .args .s .now) (c .loop-test .left)) ∙ rw (le-leb _ _ (c .before .loop .inv .1)))
 
 pub read-number-spec : {M : Type 1} → statement M
 read-number-spec =

@@ -25,7 +25,10 @@ add-at : tie.Need-add-at Inv-loop μ-loop
 add-at c = omega arith
 
 returns : tie.Need-returns Inv-loop μ-loop
-returns c = (omega arith, no-field (c .before .before .before .before .before .args .s .now) (c .before .before .before .loop .at) (c .before .before .before .loop .j) (c .before .place-from .result) (c .before .before .before .loop .inv .0) (c .before .before .before .loop .inv .2) (c .before .place-from .ensures) (c .if1 .left) (c .before .before .before .before .before .args .k) (c .before .before .loop-test .taken))
+returns c =
+    let at-loop = c .before .before .before in
+    let start = at-loop .before .before in
+    (omega arith, no-field (start .args .s .now) (at-loop .loop .at) (at-loop .loop .j) (c .before .place-from .result) (at-loop .loop .inv .0) (at-loop .loop .inv .2) (c .before .place-from .ensures) (c .if1 .left) (start .args .k) (c .before .before .loop-test .taken))
 
 add-j : tie.Need-add-j Inv-loop μ-loop
 add-j c = omega (arith, c .before .before .loop-test .taken)
@@ -34,7 +37,10 @@ loop-less : tie.Need-loop-less Inv-loop μ-loop
 loop-less c = omega (arith, c .before .before .loop-test .taken)
 
 loop-again : tie.Need-loop-again Inv-loop μ-loop
-loop-again c = (omega (arith, c .if1 .taken), omega (arith, c .before .before .loop-test .taken), next-field (c .before .before .before .before .before .args .s .now) (c .before .before .before .loop .at) (c .before .before .before .loop .j) (c .before .place-from .result) (c .before .before .before .loop .inv .0) (c .before .before .before .loop .inv .2) (c .before .place-from .ensures))
+loop-again c =
+    let at-loop = c .before .before .before in
+    let start = at-loop .before .before in
+    (omega (arith, c .if1 .taken), omega (arith, c .before .before .loop-test .taken), next-field (start .args .s .now) (at-loop .loop .at) (at-loop .loop .j) (c .before .place-from .result) (at-loop .loop .inv .0) (at-loop .loop .inv .2) (c .before .place-from .ensures))
 
 returns-2 : tie.Need-returns-2 Inv-loop μ-loop
 returns-2 c = (c .before .loop .inv .0, let k : c .before .loop .j ≡ c .before .before .before .args .k = omega (arith, c .loop-test .left, c .before .loop .inv .1) in c .before .loop .inv .2 ∙ ap (λ j. behindTabs j (c .before .before .before .args .s .now)) k)

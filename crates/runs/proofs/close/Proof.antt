@@ -14,7 +14,9 @@ same-length : tie.Need-same-length
 same-length c = search needs
 
 returns : tie.Need-returns
-returns c = rw (eq-eqb _ _ (c .before .before .before .before .before .if1 .taken)) (c .before .before .feed .ensures)
+returns c =
+    let at-if1 = c .before .before .before .before .before in
+    rw (eq-eqb _ _ (at-if1 .if1 .taken)) (c .before .before .feed .ensures)
 
 slice-aggregate-feed-2 : tie.Need-slice-aggregate-feed-2
 slice-aggregate-feed-2 c = search needs
@@ -26,7 +28,9 @@ same-length-2 : tie.Need-same-length-2
 same-length-2 c = search needs
 
 returns-2 : tie.Need-returns-2
-returns-2 c = rw (ne-eqb _ _ (c .before .before .before .before .before .if1 .left)) (c .before .before .feed2 .ensures)
+returns-2 c =
+    let at-if1 = c .before .before .before .before .before in
+    rw (ne-eqb _ _ (at-if1 .if1 .left)) (c .before .before .feed2 .ensures)
 
 pub close-spec : {M : Type 1} → statement M
 close-spec =

@@ -29,7 +29,12 @@ same-requires-3 : tie.Need-same-requires-3
 same-requires-3 c κs = search needs
 
 returns-3 : tie.Need-returns-3
-returns-3 c = rw (sym (c .before .before .before .before .before .before .before .same .ensures) ∙ c .before .before .before .before .before .before .if1 .left, sym (c .before .before .before .before .same2 .ensures) ∙ c .before .before .before .if2 .left, sym (c .before .same3 .ensures) ∙ c .if3 .taken)
+returns-3 c =
+    let at-if2 = c .before .before .before in
+    let at-same2 = at-if2 .before in
+    let at-if1 = at-same2 .before .before in
+    let at-same = at-if1 .before in
+    rw (sym (at-same .same .ensures) ∙ at-if1 .if1 .left, sym (at-same2 .same2 .ensures) ∙ at-if2 .if2 .left, sym (c .before .same3 .ensures) ∙ c .if3 .taken)
 
 slice-aggregate-same-4 : tie.Need-slice-aggregate-same-4
 slice-aggregate-same-4 c = search needs
@@ -38,7 +43,14 @@ same-requires-4 : tie.Need-same-requires-4
 same-requires-4 c κs = search needs
 
 returns-4 : tie.Need-returns-4
-returns-4 c = rw (sym (c .before .before .before .before .before .before .before .before .before .before .same .ensures) ∙ c .before .before .before .before .before .before .before .before .before .if1 .left, sym (c .before .before .before .before .before .before .before .same2 .ensures) ∙ c .before .before .before .before .before .before .if2 .left, sym (c .before .before .before .before .same3 .ensures) ∙ c .before .before .before .if3 .left, sym (c .before .same4 .ensures) ∙ c .if4 .taken)
+returns-4 c =
+    let at-if3 = c .before .before .before in
+    let at-same3 = at-if3 .before in
+    let at-if2 = at-same3 .before .before in
+    let at-same2 = at-if2 .before in
+    let at-if1 = at-same2 .before .before in
+    let at-same = at-if1 .before in
+    rw (sym (at-same .same .ensures) ∙ at-if1 .if1 .left, sym (at-same2 .same2 .ensures) ∙ at-if2 .if2 .left, sym (at-same3 .same3 .ensures) ∙ at-if3 .if3 .left, sym (c .before .same4 .ensures) ∙ c .if4 .taken)
 
 slice-aggregate-same-5 : tie.Need-slice-aggregate-same-5
 slice-aggregate-same-5 c = search needs
@@ -47,7 +59,16 @@ same-requires-5 : tie.Need-same-requires-5
 same-requires-5 c κs = search needs
 
 returns-5 : tie.Need-returns-5
-returns-5 c = rw (sym (c .before .before .before .before .before .before .before .before .before .before .before .before .before .same .ensures) ∙ c .before .before .before .before .before .before .before .before .before .before .before .before .if1 .left, sym (c .before .before .before .before .before .before .before .before .before .before .same2 .ensures) ∙ c .before .before .before .before .before .before .before .before .before .if2 .left, sym (c .before .before .before .before .before .before .before .same3 .ensures) ∙ c .before .before .before .before .before .before .if3 .left, sym (c .before .before .before .before .same4 .ensures) ∙ c .before .before .before .if4 .left, sym (c .before .same5 .ensures) ∙ c .if5 .taken)
+returns-5 c =
+    let at-if4 = c .before .before .before in
+    let at-same4 = at-if4 .before in
+    let at-if3 = at-same4 .before .before in
+    let at-same3 = at-if3 .before in
+    let at-if2 = at-same3 .before .before in
+    let at-same2 = at-if2 .before in
+    let at-if1 = at-same2 .before .before in
+    let at-same = at-if1 .before in
+    rw (sym (at-same .same .ensures) ∙ at-if1 .if1 .left, sym (at-same2 .same2 .ensures) ∙ at-if2 .if2 .left, sym (at-same3 .same3 .ensures) ∙ at-if3 .if3 .left, sym (at-same4 .same4 .ensures) ∙ at-if4 .if4 .left, sym (c .before .same5 .ensures) ∙ c .if5 .taken)
 
 slice-aggregate-same-6 : tie.Need-slice-aggregate-same-6
 slice-aggregate-same-6 c = search needs
@@ -56,7 +77,18 @@ same-requires-6 : tie.Need-same-requires-6
 same-requires-6 c κs = search needs
 
 returns-6 : tie.Need-returns-6
-returns-6 c = rw (sym (c .before .before .before .before .before .before .before .before .before .before .before .before .before .before .before .before .same .ensures) ∙ c .before .before .before .before .before .before .before .before .before .before .before .before .before .before .before .if1 .left, sym (c .before .before .before .before .before .before .before .before .before .before .before .before .before .same2 .ensures) ∙ c .before .before .before .before .before .before .before .before .before .before .before .before .if2 .left, sym (c .before .before .before .before .before .before .before .before .before .before .same3 .ensures) ∙ c .before .before .before .before .before .before .before .before .before .if3 .left, sym (c .before .before .before .before .before .before .before .same4 .ensures) ∙ c .before .before .before .before .before .before .if4 .left, sym (c .before .before .before .before .same5 .ensures) ∙ c .before .before .before .if5 .left, sym (c .before .same6 .ensures) ∙ c .if6 .taken)
+returns-6 c =
+    let at-if5 = c .before .before .before in
+    let at-same5 = at-if5 .before in
+    let at-if4 = at-same5 .before .before in
+    let at-same4 = at-if4 .before in
+    let at-if3 = at-same4 .before .before in
+    let at-same3 = at-if3 .before in
+    let at-if2 = at-same3 .before .before in
+    let at-same2 = at-if2 .before in
+    let at-if1 = at-same2 .before .before in
+    let at-same = at-if1 .before in
+    rw (sym (at-same .same .ensures) ∙ at-if1 .if1 .left, sym (at-same2 .same2 .ensures) ∙ at-if2 .if2 .left, sym (at-same3 .same3 .ensures) ∙ at-if3 .if3 .left, sym (at-same4 .same4 .ensures) ∙ at-if4 .if4 .left, sym (at-same5 .same5 .ensures) ∙ at-if5 .if5 .left, sym (c .before .same6 .ensures) ∙ c .if6 .taken)
 
 slice-aggregate-same-7 : tie.Need-slice-aggregate-same-7
 slice-aggregate-same-7 c = search needs
@@ -65,10 +97,36 @@ same-requires-7 : tie.Need-same-requires-7
 same-requires-7 c κs = search needs
 
 returns-7 : tie.Need-returns-7
-returns-7 c = rw (sym (c .before .before .before .before .before .before .before .before .before .before .before .before .before .before .before .before .before .before .before .same .ensures) ∙ c .before .before .before .before .before .before .before .before .before .before .before .before .before .before .before .before .before .before .if1 .left, sym (c .before .before .before .before .before .before .before .before .before .before .before .before .before .before .before .before .same2 .ensures) ∙ c .before .before .before .before .before .before .before .before .before .before .before .before .before .before .before .if2 .left, sym (c .before .before .before .before .before .before .before .before .before .before .before .before .before .same3 .ensures) ∙ c .before .before .before .before .before .before .before .before .before .before .before .before .if3 .left, sym (c .before .before .before .before .before .before .before .before .before .before .same4 .ensures) ∙ c .before .before .before .before .before .before .before .before .before .if4 .left, sym (c .before .before .before .before .before .before .before .same5 .ensures) ∙ c .before .before .before .before .before .before .if5 .left, sym (c .before .before .before .before .same6 .ensures) ∙ c .before .before .before .if6 .left, sym (c .before .same7 .ensures) ∙ c .if7 .taken)
+returns-7 c =
+    let at-if6 = c .before .before .before in
+    let at-same6 = at-if6 .before in
+    let at-if5 = at-same6 .before .before in
+    let at-same5 = at-if5 .before in
+    let at-if4 = at-same5 .before .before in
+    let at-same4 = at-if4 .before in
+    let at-if3 = at-same4 .before .before in
+    let at-same3 = at-if3 .before in
+    let at-if2 = at-same3 .before .before in
+    let at-same2 = at-if2 .before in
+    let at-if1 = at-same2 .before .before in
+    let at-same = at-if1 .before in
+    rw (sym (at-same .same .ensures) ∙ at-if1 .if1 .left, sym (at-same2 .same2 .ensures) ∙ at-if2 .if2 .left, sym (at-same3 .same3 .ensures) ∙ at-if3 .if3 .left, sym (at-same4 .same4 .ensures) ∙ at-if4 .if4 .left, sym (at-same5 .same5 .ensures) ∙ at-if5 .if5 .left, sym (at-same6 .same6 .ensures) ∙ at-if6 .if6 .left, sym (c .before .same7 .ensures) ∙ c .if7 .taken)
 
 returns-8 : tie.Need-returns-8
-returns-8 c = rw (sym (c .before .before .before .before .before .before .before .before .before .before .before .before .before .before .before .before .before .before .before .same .ensures) ∙ c .before .before .before .before .before .before .before .before .before .before .before .before .before .before .before .before .before .before .if1 .left, sym (c .before .before .before .before .before .before .before .before .before .before .before .before .before .before .before .before .same2 .ensures) ∙ c .before .before .before .before .before .before .before .before .before .before .before .before .before .before .before .if2 .left, sym (c .before .before .before .before .before .before .before .before .before .before .before .before .before .same3 .ensures) ∙ c .before .before .before .before .before .before .before .before .before .before .before .before .if3 .left, sym (c .before .before .before .before .before .before .before .before .before .before .same4 .ensures) ∙ c .before .before .before .before .before .before .before .before .before .if4 .left, sym (c .before .before .before .before .before .before .before .same5 .ensures) ∙ c .before .before .before .before .before .before .if5 .left, sym (c .before .before .before .before .same6 .ensures) ∙ c .before .before .before .if6 .left, sym (c .before .same7 .ensures) ∙ c .if7 .left)
+returns-8 c =
+    let at-if6 = c .before .before .before in
+    let at-same6 = at-if6 .before in
+    let at-if5 = at-same6 .before .before in
+    let at-same5 = at-if5 .before in
+    let at-if4 = at-same5 .before .before in
+    let at-same4 = at-if4 .before in
+    let at-if3 = at-same4 .before .before in
+    let at-same3 = at-if3 .before in
+    let at-if2 = at-same3 .before .before in
+    let at-same2 = at-if2 .before in
+    let at-if1 = at-same2 .before .before in
+    let at-same = at-if1 .before in
+    rw (sym (at-same .same .ensures) ∙ at-if1 .if1 .left, sym (at-same2 .same2 .ensures) ∙ at-if2 .if2 .left, sym (at-same3 .same3 .ensures) ∙ at-if3 .if3 .left, sym (at-same4 .same4 .ensures) ∙ at-if4 .if4 .left, sym (at-same5 .same5 .ensures) ∙ at-if5 .if5 .left, sym (at-same6 .same6 .ensures) ∙ at-if6 .if6 .left, sym (c .before .same7 .ensures) ∙ c .if7 .left)
 
 pub command-named-spec : {M : Type 1} → statement M
 command-named-spec =

@@ -18,7 +18,10 @@ same-length : tie.Need-same-length
 same-length c = search needs
 
 returns : tie.Need-returns
-returns c = (let e = sym (ap (λ n. readLine (take enough (take n (c .before .before .before .before .before .before .before .before .args .keep .now) ++ c .before .before .before .before .before .before .before .before .args .part .now))) (c .before .before .before .before .if1 .taken) ∙ cut (c .before .before .before .before .before .before .before .before .args .part .now)) in taken-alike e (c .before .before .take-line .ensures))
+returns c =
+    let at-if1 = c .before .before .before .before in
+    let start = at-if1 .before .before .before .before in
+    (let e = sym (ap (λ n. readLine (take enough (take n (start .args .keep .now) ++ start .args .part .now))) (at-if1 .if1 .taken) ∙ cut (start .args .part .now)) in taken-alike e (c .before .before .take-line .ensures))
 
 put-bytes-requires : tie.Need-put-bytes-requires
 put-bytes-requires c κs = search needs
@@ -36,7 +39,11 @@ same-length-3 : tie.Need-same-length-3
 same-length-3 c = search needs
 
 returns-2 : tie.Need-returns-2
-returns-2 c = (let e = ap readLine (c .before .before .before .before .front .ensures ∙ up-to (c .before .before .before .before .before .before .before .before .put-bytes .ensures) ∙ ap (λ n. take n (take (c .before .before .before .before .before .before .before .before .before .before .before .before .before .before .args .len) (c .before .before .before .before .before .before .before .before .before .before .before .before .before .before .args .keep .now) ++ c .before .before .before .before .before .before .before .before .before .before .before .before .before .before .args .part .now)) (c .before .before .before .before .before .before .before .before .before .before .before .before .before .before .pre)) in taken-alike e (c .before .before .take-line2 .ensures))
+returns-2 c =
+    let at-front = c .before .before .before .before in
+    let at-put-bytes = at-front .before .before .before .before in
+    let start = at-put-bytes .before .before .before .before .before .before in
+    (let e = ap readLine (at-front .front .ensures ∙ up-to (at-put-bytes .put-bytes .ensures) ∙ ap (λ n. take n (take (start .args .len) (start .args .keep .now) ++ start .args .part .now)) (start .pre)) in taken-alike e (c .before .before .take-line2 .ensures))
 
 pub end-line-spec : {M : Type 1} → statement M
 end-line-spec =

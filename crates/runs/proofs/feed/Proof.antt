@@ -40,49 +40,93 @@ front-requires : tie.Need-front-requires Inv-loop μ-loop
 front-requires c κs = tt
 
 sub-hold : tie.Need-sub-hold Inv-loop μ-loop
-sub-hold c = end-behind (c .before .before .before .before .before .loop .inv .going) (c .before .before .before .place-from .ensures)
+sub-hold c =
+    let at-place-from = c .before .before .before in
+    let at-loop = at-place-from .before .before in
+    end-behind (at-loop .loop .inv .going) (at-place-from .place-from .ensures)
 
 part-hold-start : tie.Need-part-hold-start Inv-loop μ-loop
-part-hold-start c = end-behind (c .before .before .before .before .before .loop .inv .going) (c .before .before .before .place-from .ensures)
+part-hold-start c =
+    let at-place-from = c .before .before .before in
+    let at-loop = at-place-from .before .before in
+    end-behind (at-loop .loop .inv .going) (at-place-from .place-from .ensures)
 
 part-hold-end : tie.Need-part-hold-end Inv-loop μ-loop
-part-hold-end c = end-inside (c .before .before .before .before .before .loop .inv .going) (c .before .before .before .place-from .ensures)
+part-hold-end c =
+    let at-place-from = c .before .before .before in
+    let at-loop = at-place-from .before .before in
+    end-inside (at-loop .loop .inv .going) (at-place-from .place-from .ensures)
 
 hold-requires : tie.Need-hold-requires Inv-loop μ-loop
 hold-requires c κs = tt
 
 same-length : tie.Need-same-length Inv-loop μ-loop
-same-length c = kept (c .before .before .before .before .before .before .before .loop .inv .bytes)
+same-length c =
+    let at-loop = c .before .before .before .before .before .before .before in
+    kept (at-loop .loop .inv .bytes)
 
 returns : tie.Need-returns Inv-loop μ-loop
-returns c = loop-stop (c .before .before .before .before .before .before .before .loop .inv) (c .before .before .before .before .before .place-from .ensures) (c .before .before .before .before .if1 .taken) (c .before .before .before .before .before .before .before .before .before .before .before .before .before .args .run) (ap (λ k. carry (c .before .before .before .before .before .before .before .before .before .before .before .before .before .args .run .line) (c .before .before .before .before .before .before .before .before .before .before .before .before .before .args .run .len) k (c .before .before .before .before .before .before .before .before .before .before .before .before .before .args .run .state)) (c .before .before .before .before .before .before .before .before .before .places .ensures .0)) (c .hold .ensures ∙ ap (λ b. runOf (record { line = c .before .before .before .before .before .before .before .loop .line; begun = take enough (b ++ take (c .before .before .before .before .before .place-from .result - c .before .before .before .before .before .before .before .loop .i) (drop (c .before .before .before .before .before .before .before .loop .i) (c .before .before .before .before .before .before .before .before .before .before .before .before .before .args .block .now))); state = c .before .before .before .before .before .before .before .loop .state })) (c .before .before .front .ensures))
+returns c =
+    let at-if1 = c .before .before .before .before in
+    let at-place-from = at-if1 .before in
+    let at-loop = at-place-from .before .before in
+    let at-places = at-loop .before .before in
+    let start = at-places .before .before .before .before in
+    loop-stop (at-loop .loop .inv) (at-place-from .place-from .ensures) (at-if1 .if1 .taken) (start .args .run) (ap (λ k. carry (start .args .run .line) (start .args .run .len) k (start .args .run .state)) (at-places .places .ensures .0)) (c .hold .ensures ∙ ap (λ b. runOf (record { line = at-loop .loop .line; begun = take enough (b ++ take (at-place-from .place-from .result - at-loop .loop .i) (drop (at-loop .loop .i) (start .args .block .now))); state = at-loop .loop .state })) (c .before .before .front .ensures))
 
 next-line-requires : tie.Need-next-line-requires Inv-loop μ-loop
 next-line-requires c κs = tt
 
 slice-aggregate-end-line : tie.Need-slice-aggregate-end-line Inv-loop μ-loop
-slice-aggregate-end-line c = sym (c .before .before .before .before .before .loop .inv .size)
+slice-aggregate-end-line c =
+    let at-loop = c .before .before .before .before .before in
+    sym (at-loop .loop .inv .size)
 
 sub-end-line : tie.Need-sub-end-line Inv-loop μ-loop
-sub-end-line c = end-behind (c .before .before .before .before .before .loop .inv .going) (c .before .before .before .place-from .ensures)
+sub-end-line c =
+    let at-place-from = c .before .before .before in
+    let at-loop = at-place-from .before .before in
+    end-behind (at-loop .loop .inv .going) (at-place-from .place-from .ensures)
 
 part-end-line-start : tie.Need-part-end-line-start Inv-loop μ-loop
-part-end-line-start c = end-behind (c .before .before .before .before .before .loop .inv .going) (c .before .before .before .place-from .ensures)
+part-end-line-start c =
+    let at-place-from = c .before .before .before in
+    let at-loop = at-place-from .before .before in
+    end-behind (at-loop .loop .inv .going) (at-place-from .place-from .ensures)
 
 part-end-line-end : tie.Need-part-end-line-end Inv-loop μ-loop
-part-end-line-end c = end-inside (c .before .before .before .before .before .loop .inv .going) (c .before .before .before .place-from .ensures)
+part-end-line-end c =
+    let at-place-from = c .before .before .before in
+    let at-loop = at-place-from .before .before in
+    end-inside (at-loop .loop .inv .going) (at-place-from .place-from .ensures)
 
 end-line-requires : tie.Need-end-line-requires Inv-loop μ-loop
-end-line-requires c κs = c .before .before .before .before .before .before .before .loop .inv .size
+end-line-requires c κs =
+    let at-loop = c .before .before .before .before .before .before .before in
+    at-loop .loop .inv .size
 
 add-i : tie.Need-add-i Inv-loop μ-loop
-add-i c = (let ne = eqb-false (c .before .before .before .before .before .before .before .before .before .before .place-from .result) (length (c .before .before .before .before .before .before .before .before .before .before .before .before .before .before .before .before .before .before .args .block .now)) (nor _ _ (c .before .before .before .before .before .before .before .before .before .if1 .left) .0) in omega (arith, end-inside (c .before .before .before .before .before .before .before .before .before .before .before .before .loop .inv .going) (c .before .before .before .before .before .before .before .before .before .before .place-from .ensures), ne, c .before .before .before .before .before .before .before .before .before .before .before .before .before .before .before .before .before .before .good))
+add-i c =
+    let at-if1 = c .before .before .before .before .before .before .before .before .before in
+    let at-place-from = at-if1 .before in
+    let at-loop = at-place-from .before .before in
+    let start = at-loop .before .before .before .before .before .before in
+    (let ne = eqb-false (at-place-from .place-from .result) (length (start .args .block .now)) (nor _ _ (at-if1 .if1 .left) .0) in omega (arith, end-inside (at-loop .loop .inv .going) (at-place-from .place-from .ensures), ne, start .good))
 
 loop-less : tie.Need-loop-less Inv-loop μ-loop
-loop-less c = omega (arith, end-inside (c .before .before .before .before .before .before .before .before .before .before .before .before .loop .inv .going) (c .before .before .before .before .before .before .before .before .before .before .place-from .ensures), end-behind (c .before .before .before .before .before .before .before .before .before .before .before .before .loop .inv .going) (c .before .before .before .before .before .before .before .before .before .before .place-from .ensures))
+loop-less c =
+    let at-place-from = c .before .before .before .before .before .before .before .before .before .before in
+    let at-loop = at-place-from .before .before in
+    omega (arith, end-inside (at-loop .loop .inv .going) (at-place-from .place-from .ensures), end-behind (at-loop .loop .inv .going) (at-place-from .place-from .ensures))
 
 loop-again : tie.Need-loop-again Inv-loop μ-loop
-loop-again c = loop-line (c .before .before .before .before .before .before .before .before .before .before .before .before .loop .inv) (c .before .before .before .before .before .before .before .before .before .before .place-from .ensures) (c .before .before .before .before .before .before .before .before .before .if1 .left) (c .before .before .before .before .before .before .before .before .next-line .ensures) (omega (arith, c .before .before .before .before .end-line .kept, c .before .before .before .before .before .before .before .before .before .before .before .before .loop .inv .size)) (c .before .before .before .before .end-line .ensures)
+loop-again c =
+    let at-end-line = c .before .before .before .before in
+    let at-next-line = at-end-line .before .before .before .before in
+    let at-if1 = at-next-line .before in
+    let at-place-from = at-if1 .before in
+    let at-loop = at-place-from .before .before in
+    loop-line (at-loop .loop .inv) (at-place-from .place-from .ensures) (at-if1 .if1 .left) (at-next-line .next-line .ensures) (omega (arith, at-end-line .end-line .kept, at-loop .loop .inv .size)) (at-end-line .end-line .ensures)
 
 slice-aggregate-front-2 : tie.Need-slice-aggregate-front-2 Inv-loop μ-loop
 slice-aggregate-front-2 c = sym (c .before .before .loop .inv .size)
@@ -103,10 +147,17 @@ hold-requires-2 : tie.Need-hold-requires-2 Inv-loop μ-loop
 hold-requires-2 c κs = tt
 
 same-length-2 : tie.Need-same-length-2 Inv-loop μ-loop
-same-length-2 c = kept (c .before .before .before .before .before .loop .inv .bytes)
+same-length-2 c =
+    let at-loop = c .before .before .before .before .before in
+    kept (at-loop .loop .inv .bytes)
 
 returns-2 : tie.Need-returns-2 Inv-loop μ-loop
-returns-2 c = loop-end (c .before .before .before .before .before .loop .inv) (c .before .before .before .before .loop-test .left) (c .before .before .before .before .before .before .before .before .before .before .before .args .run) (ap (λ k. carry (c .before .before .before .before .before .before .before .before .before .before .before .args .run .line) (c .before .before .before .before .before .before .before .before .before .before .before .args .run .len) k (c .before .before .before .before .before .before .before .before .before .before .before .args .run .state)) (c .before .before .before .before .before .before .before .places .ensures .0)) (c .hold2 .ensures ∙ ap (λ b. runOf (record { line = c .before .before .before .before .before .loop .line; begun = take enough (b ++ take (length (c .before .before .before .before .before .before .before .before .before .before .before .args .block .now) - c .before .before .before .before .before .loop .i) (drop (c .before .before .before .before .before .loop .i) (c .before .before .before .before .before .before .before .before .before .before .before .args .block .now))); state = c .before .before .before .before .before .loop .state })) (c .before .before .front2 .ensures))
+returns-2 c =
+    let in-loop = c .before .before .before .before in
+    let at-loop = in-loop .before in
+    let at-places = at-loop .before .before in
+    let start = at-places .before .before .before .before in
+    loop-end (at-loop .loop .inv) (in-loop .loop-test .left) (start .args .run) (ap (λ k. carry (start .args .run .line) (start .args .run .len) k (start .args .run .state)) (at-places .places .ensures .0)) (c .hold2 .ensures ∙ ap (λ b. runOf (record { line = at-loop .loop .line; begun = take enough (b ++ take (length (start .args .block .now) - at-loop .loop .i) (drop (at-loop .loop .i) (start .args .block .now))); state = at-loop .loop .state })) (c .before .before .front2 .ensures))
 
 pub feed-spec : {M : Type 1} → statement M
 feed-spec =

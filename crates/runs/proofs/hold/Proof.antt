@@ -23,7 +23,10 @@ put-bytes-requires-2 : tie.Need-put-bytes-requires-2
 put-bytes-requires-2 c κs = search needs
 
 returns : tie.Need-returns
-returns c = (let p = at-front (then (c .before .before .before .before .put-bytes .ensures) (c .before .put-bytes2 .ensures)) in λ i. record { line = c .before .before .before .before .before .before .before .before .args .line; len = p .0 i; keep = (p .1 ∙ ap (λ z. take enough (c .before .before .before .before .before .before .before .before .args .begun .now ++ c .before .before .before .before .before .before .before .before .args .part .now) ++ z) (zeros-left enough (c .before .before .before .before .before .before .before .before .args .begun .now ++ c .before .before .before .before .before .before .before .before .args .part .now))) i; state = c .before .before .before .before .before .before .before .before .args .t })
+returns c =
+    let at-put-bytes = c .before .before .before .before in
+    let start = at-put-bytes .before .before .before .before in
+    (let p = at-front (then (at-put-bytes .put-bytes .ensures) (c .before .put-bytes2 .ensures)) in λ i. record { line = start .args .line; len = p .0 i; keep = (p .1 ∙ ap (λ z. take enough (start .args .begun .now ++ start .args .part .now) ++ z) (zeros-left enough (start .args .begun .now ++ start .args .part .now))) i; state = start .args .t })
 
 pub hold-spec : {M : Type 1} → statement M
 hold-spec =

@@ -11,7 +11,9 @@ put-number-requires : tie.Need-put-number-requires
 put-number-requires c κs = search needs
 
 returns : tie.Need-returns
-returns c = then (c .before .before .before .before .before .before .put-byte .ensures) (c .before .before .put-number .ensures)
+returns c =
+    let at-put-byte = c .before .before .before .before .before .before in
+    then (at-put-byte .put-byte .ensures) (c .before .before .put-number .ensures)
 
 same-length : tie.Need-same-length
 same-length c = kept (returns c)

@@ -34,7 +34,15 @@ put-byte-requires-2 c κs = search needs
 
 returns : tie.Need-returns
 unfolding rowOf
-returns c = (then (then (c .before .before .before .before .before .before .before .before .before .before .before .before .before .before .before .before .before .before .before .before .before .before .before .before .before .before .before .before .before .before .put-number .ensures) (then (c .before .before .before .before .before .before .before .before .before .before .before .before .before .before .before .before .before .before .before .before .before .before .before .before .before .before .put-byte .ensures) (then (c .before .before .before .before .before .before .before .before .before .before .before .before .before .before .before .before .before .before .before .before .before .before .put-word .ensures) (then (c .before .before .before .before .before .before .before .before .before .before .before .before .before .before .before .before .before .before .put-column .ensures) (then (c .before .before .before .before .before .before .before .before .before .before .before .before .before .before .put-column2 .ensures) (then (c .before .before .before .before .before .before .before .before .before .before .put-column3 .ensures) (c .before .before .before .before .before .before .put-column4 .ensures))))))) (c .before .before .put-byte2 .ensures), let s = c .before .before .before .before .before .before .before .before .before .before .before .before .before .before .before .before .before .before .before .before .before .before .before .before .before .before .before .before .before .before .before .before .before in row-short (s .args .line) (s .args .a) (s .args .read) (s .args .balance) (s .args .unanswered) (s .args .used) (omega (arith, s .good)) (omega (arith, s .good)) (omega (arith, s .good)) (omega (arith, s .good)) (omega (arith, s .good)))
+returns c =
+    let at-put-column4 = c .before .before .before .before .before .before in
+    let at-put-column3 = at-put-column4 .before .before .before .before in
+    let at-put-column2 = at-put-column3 .before .before .before .before in
+    let at-put-column = at-put-column2 .before .before .before .before in
+    let at-put-word = at-put-column .before .before .before .before in
+    let at-put-byte = at-put-word .before .before .before .before in
+    let at-put-number = at-put-byte .before .before .before .before in
+    (then (then (at-put-number .put-number .ensures) (then (at-put-byte .put-byte .ensures) (then (at-put-word .put-word .ensures) (then (at-put-column .put-column .ensures) (then (at-put-column2 .put-column2 .ensures) (then (at-put-column3 .put-column3 .ensures) (at-put-column4 .put-column4 .ensures))))))) (c .before .before .put-byte2 .ensures), let s = c .before .before .before .before .before .before .before .before .before .before .before .before .before .before .before .before .before .before .before .before .before .before .before .before .before .before .before .before .before .before .before .before .before in row-short (s .args .line) (s .args .a) (s .args .read) (s .args .balance) (s .args .unanswered) (s .args .used) (omega (arith, s .good)) (omega (arith, s .good)) (omega (arith, s .good)) (omega (arith, s .good)) (omega (arith, s .good)))
 
 same-length : tie.Need-same-length
 same-length c = kept (returns c .0)

@@ -17,7 +17,9 @@ same-length : tie.Need-same-length
 same-length c = search needs
 
 returns : tie.Need-returns
-returns c = rw (c .before .before .before .before .before .enum-told .given .1) (c .before .before .put-bytes .ensures)
+returns c =
+    let at-enum-told = c .before .before .before .before .before in
+    rw (at-enum-told .enum-told .given .1) (c .before .before .put-bytes .ensures)
 
 enum-told-2 : tie.Need-enum-told-2
 enum-told-2 c = search needs
@@ -32,7 +34,9 @@ same-length-2 : tie.Need-same-length-2
 same-length-2 c = search needs
 
 returns-2 : tie.Need-returns-2
-returns-2 c = rw (c .before .before .before .before .before .enum-told2 .given .1) (c .before .before .put-bytes2 .ensures)
+returns-2 c =
+    let at-enum-told2 = c .before .before .before .before .before in
+    rw (at-enum-told2 .enum-told2 .given .1) (c .before .before .put-bytes2 .ensures)
 
 enum-told-3 : tie.Need-enum-told-3
 enum-told-3 c = search needs
@@ -47,7 +51,9 @@ same-length-3 : tie.Need-same-length-3
 same-length-3 c = search needs
 
 returns-3 : tie.Need-returns-3
-returns-3 c = rw (c .before .before .before .before .before .enum-told3 .given .1) (c .before .before .put-bytes3 .ensures)
+returns-3 c =
+    let at-enum-told3 = c .before .before .before .before .before in
+    rw (at-enum-told3 .enum-told3 .given .1) (c .before .before .put-bytes3 .ensures)
 
 enum-told-4 : tie.Need-enum-told-4
 enum-told-4 c = search needs
@@ -62,7 +68,9 @@ same-length-4 : tie.Need-same-length-4
 same-length-4 c = search needs
 
 returns-4 : tie.Need-returns-4
-returns-4 c = rw (c .before .before .before .before .before .enum-told4 .given .1) (c .before .before .put-bytes4 .ensures)
+returns-4 c =
+    let at-enum-told4 = c .before .before .before .before .before in
+    rw (at-enum-told4 .enum-told4 .given .1) (c .before .before .put-bytes4 .ensures)
 
 enum-told-5 : tie.Need-enum-told-5
 enum-told-5 c = search needs
@@ -77,7 +85,9 @@ same-length-5 : tie.Need-same-length-5
 same-length-5 c = search needs
 
 returns-5 : tie.Need-returns-5
-returns-5 c = rw (c .before .before .before .before .before .enum-told5 .given .1) (c .before .before .put-bytes5 .ensures)
+returns-5 c =
+    let at-enum-told5 = c .before .before .before .before .before in
+    rw (at-enum-told5 .enum-told5 .given .1) (c .before .before .put-bytes5 .ensures)
 
 enum-told-6 : tie.Need-enum-told-6
 enum-told-6 c = search needs
@@ -92,7 +102,9 @@ same-length-6 : tie.Need-same-length-6
 same-length-6 c = search needs
 
 returns-6 : tie.Need-returns-6
-returns-6 c = rw (c .before .before .before .before .before .enum-told6 .given .1) (c .before .before .put-bytes6 .ensures)
+returns-6 c =
+    let at-enum-told6 = c .before .before .before .before .before in
+    rw (at-enum-told6 .enum-told6 .given .1) (c .before .before .put-bytes6 .ensures)
 
 enum-told-7 : tie.Need-enum-told-7
 enum-told-7 c = search needs
@@ -107,7 +119,9 @@ same-length-7 : tie.Need-same-length-7
 same-length-7 c = search needs
 
 returns-7 : tie.Need-returns-7
-returns-7 c = rw (c .before .before .before .before .before .enum-told7 .given .1) (c .before .before .put-bytes7 .ensures)
+returns-7 c =
+    let at-enum-told7 = c .before .before .before .before .before in
+    rw (at-enum-told7 .enum-told7 .given .1) (c .before .before .put-bytes7 .ensures)
 
 enum-known-a : tie.Need-enum-known-a
 enum-known-a c = search needs
@@ -125,7 +139,10 @@ same-length-8 : tie.Need-same-length-8
 same-length-8 c = search needs
 
 returns-8 : tie.Need-returns-8
-returns-8 c = rw (c .before .before .before .before .before .before .a .given .1) (rw (← c .before .before .before .before .number .ensures) (c .before .before .put-number .ensures))
+returns-8 c =
+    let at-number = c .before .before .before .before in
+    let at-a = at-number .before .before in
+    rw (at-a .a .given .1) (rw (← at-number .number .ensures) (c .before .before .put-number .ensures))
 
 pub put-word-spec : {M : Type 1} → statement M
 put-word-spec =

@@ -28,10 +28,19 @@ start-of-requires : tie.Need-start-of-requires
 start-of-requires c κs = search needs
 
 returns-2 : tie.Need-returns-2
-returns-2 c = c .start-of .ensures ∙ sym (start-line (c .before .before .before .before .before .before .before .before .args .s .now) (c .before .before .before .before .before .before .field-count .result) (c .before .before .before .before .before .before .field-count .ensures) (rw (← c .before .before .before .before .field-at .ensures, ← c .before .before .same .ensures) (c .before .if2 .taken)))
+returns-2 c =
+    let at-field-at = c .before .before .before .before in
+    let at-field-count = at-field-at .before .before in
+    let start = at-field-count .before .before in
+    c .start-of .ensures ∙ sym (start-line (start .args .s .now) (at-field-count .field-count .result) (at-field-count .field-count .ensures) (rw (← at-field-at .field-at .ensures, ← c .before .before .same .ensures) (c .before .if2 .taken)))
 
 returns-3 : tie.Need-returns-3
-returns-3 c = sym (bad-line (c .before .before .before .before .before .before .before .args .s .now) (c .before .before .before .before .before .field-count .result) (c .before .before .before .before .before .field-count .ensures) (c .before .before .before .before .if1 .left) (rw (← c .before .before .before .field-at .ensures, ← c .before .same .ensures) (c .if2 .left)))
+returns-3 c =
+    let at-field-at = c .before .before .before in
+    let at-if1 = at-field-at .before in
+    let at-field-count = at-if1 .before in
+    let start = at-field-count .before .before in
+    sym (bad-line (start .args .s .now) (at-field-count .field-count .result) (at-field-count .field-count .ensures) (at-if1 .if1 .left) (rw (← at-field-at .field-at .ensures, ← c .before .same .ensures) (c .if2 .left)))
 
 pub read-line-spec : {M : Type 1} → statement M
 read-line-spec =

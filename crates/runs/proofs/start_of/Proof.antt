@@ -31,7 +31,10 @@ enum-told-2 : tie.Need-enum-told-2
 enum-told-2 c = search needs
 
 returns-2 : tie.Need-returns-2
-returns-2 c = rw (sym (c .before .before .before .before .before .before .number .ensures) ∙ c .before .before .before .before .offset .given .1, sym (c .before .before .number2 .ensures) ∙ c .enum-told2 .given .1)
+returns-2 c =
+    let at-offset = c .before .before .before .before in
+    let at-number = at-offset .before .before in
+    rw (sym (at-number .number .ensures) ∙ at-offset .offset .given .1, sym (c .before .before .number2 .ensures) ∙ c .enum-told2 .given .1)
 
 number-requires-3 : tie.Need-number-requires-3
 number-requires-3 c κs = search needs
@@ -43,7 +46,12 @@ enum-told-3 : tie.Need-enum-told-3
 enum-told-3 c = search needs
 
 returns-3 : tie.Need-returns-3
-returns-3 c = rw (sym (c .before .before .before .before .before .before .before .before .before .before .number .ensures) ∙ c .before .before .before .before .before .before .before .before .offset .given .1, sym (c .before .before .before .before .before .before .number2 .ensures) ∙ c .before .before .before .before .count .given .1, sym (c .before .before .number3 .ensures) ∙ c .enum-told3 .given .1)
+returns-3 c =
+    let at-count = c .before .before .before .before in
+    let at-number2 = at-count .before .before in
+    let at-offset = at-number2 .before .before in
+    let at-number = at-offset .before .before in
+    rw (sym (at-number .number .ensures) ∙ at-offset .offset .given .1, sym (at-number2 .number2 .ensures) ∙ at-count .count .given .1, sym (c .before .before .number3 .ensures) ∙ c .enum-told3 .given .1)
 
 number-requires-4 : tie.Need-number-requires-4
 number-requires-4 c κs = search needs
@@ -55,22 +63,52 @@ enum-told-4 : tie.Need-enum-told-4
 enum-told-4 c = search needs
 
 returns-4 : tie.Need-returns-4
-returns-4 c = rw (sym (c .before .before .before .before .before .before .before .before .before .before .before .before .before .before .number .ensures) ∙ c .before .before .before .before .before .before .before .before .before .before .before .before .offset .given .1, sym (c .before .before .before .before .before .before .before .before .before .before .number2 .ensures) ∙ c .before .before .before .before .before .before .before .before .count .given .1, sym (c .before .before .before .before .before .before .number3 .ensures) ∙ c .before .before .before .before .size .given .1, sym (c .before .before .number4 .ensures) ∙ c .enum-told4 .given .1)
+returns-4 c =
+    let at-size = c .before .before .before .before in
+    let at-number3 = at-size .before .before in
+    let at-count = at-number3 .before .before in
+    let at-number2 = at-count .before .before in
+    let at-offset = at-number2 .before .before in
+    let at-number = at-offset .before .before in
+    rw (sym (at-number .number .ensures) ∙ at-offset .offset .given .1, sym (at-number2 .number2 .ensures) ∙ at-count .count .given .1, sym (at-number3 .number3 .ensures) ∙ at-size .size .given .1, sym (c .before .before .number4 .ensures) ∙ c .enum-told4 .given .1)
 
 cast-t10 : tie.Need-cast-t10
-cast-t10 c = omega (arith, written-read largest (fieldAt (c .before .before .before .before .before .before .before .before .before .before .before .before .before .before .before .before .before .args .s .now) 1) _ (sym (c .before .before .before .before .before .before .before .before .before .before .before .before .before .before .before .number .ensures) ∙ c .before .before .before .before .before .before .before .before .before .before .before .before .before .offset .given .1) .1)
+cast-t10 c =
+    let at-offset = c .before .before .before .before .before .before .before .before .before .before .before .before .before in
+    let at-number = at-offset .before .before in
+    let start = at-number .before .before in
+    omega (arith, written-read largest (fieldAt (start .args .s .now) 1) _ (sym (at-number .number .ensures) ∙ at-offset .offset .given .1) .1)
 
 cast-t11 : tie.Need-cast-t11
-cast-t11 c = omega (arith, written-read largest (fieldAt (c .before .before .before .before .before .before .before .before .before .before .before .before .before .before .before .before .before .args .s .now) 2) _ (sym (c .before .before .before .before .before .before .before .before .before .before .before .number2 .ensures) ∙ c .before .before .before .before .before .before .before .before .before .count .given .1) .1)
+cast-t11 c =
+    let at-count = c .before .before .before .before .before .before .before .before .before in
+    let at-number2 = at-count .before .before in
+    let start = at-number2 .before .before .before .before .before .before in
+    omega (arith, written-read largest (fieldAt (start .args .s .now) 2) _ (sym (at-number2 .number2 .ensures) ∙ at-count .count .given .1) .1)
 
 cast-t12 : tie.Need-cast-t12
-cast-t12 c = omega (arith, written-read largest (fieldAt (c .before .before .before .before .before .before .before .before .before .before .before .before .before .before .before .before .before .args .s .now) 3) _ (sym (c .before .before .before .before .before .before .before .number3 .ensures) ∙ c .before .before .before .before .before .size .given .1) .1)
+cast-t12 c =
+    let at-size = c .before .before .before .before .before in
+    let at-number3 = at-size .before .before in
+    let start = at-number3 .before .before .before .before .before .before .before .before .before .before in
+    omega (arith, written-read largest (fieldAt (start .args .s .now) 3) _ (sym (at-number3 .number3 .ensures) ∙ at-size .size .given .1) .1)
 
 cast-t13 : tie.Need-cast-t13
-cast-t13 c = omega (arith, written-read largest (fieldAt (c .before .before .before .before .before .before .before .before .before .before .before .before .before .before .before .before .before .args .s .now) 4) _ (sym (c .before .before .before .number4 .ensures) ∙ c .before .resends .given .1) .1)
+cast-t13 c =
+    let at-number4 = c .before .before .before in
+    let start = at-number4 .before .before .before .before .before .before .before .before .before .before .before .before .before .before in
+    omega (arith, written-read largest (fieldAt (start .args .s .now) 4) _ (sym (at-number4 .number4 .ensures) ∙ c .before .resends .given .1) .1)
 
 returns-5 : tie.Need-returns-5
-returns-5 c = rw (sym (c .before .before .before .before .before .before .before .before .before .before .before .before .before .before .before .number .ensures) ∙ c .before .before .before .before .before .before .before .before .before .before .before .before .before .offset .given .1, sym (c .before .before .before .before .before .before .before .before .before .before .before .number2 .ensures) ∙ c .before .before .before .before .before .before .before .before .before .count .given .1, sym (c .before .before .before .before .before .before .before .number3 .ensures) ∙ c .before .before .before .before .before .size .given .1, sym (c .before .before .before .number4 .ensures) ∙ c .before .resends .given .1)
+returns-5 c =
+    let at-number4 = c .before .before .before in
+    let at-size = at-number4 .before .before in
+    let at-number3 = at-size .before .before in
+    let at-count = at-number3 .before .before in
+    let at-number2 = at-count .before .before in
+    let at-offset = at-number2 .before .before in
+    let at-number = at-offset .before .before in
+    rw (sym (at-number .number .ensures) ∙ at-offset .offset .given .1, sym (at-number2 .number2 .ensures) ∙ at-count .count .given .1, sym (at-number3 .number3 .ensures) ∙ at-size .size .given .1, sym (at-number4 .number4 .ensures) ∙ c .before .resends .given .1)
 
 pub start-of-spec : {M : Type 1} → statement M
 start-of-spec =

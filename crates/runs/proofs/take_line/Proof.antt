@@ -18,7 +18,12 @@ same-length : tie.Need-same-length
 same-length c = search needs
 
 returns : tie.Need-returns
-returns c = (let e = c .before .before .before .before .before .obeyed .ensures ∙ ap (λ x. obeyed x (c .before .before .before .before .before .before .before .before .before .args .t)) (c .before .before .before .before .before .before .read-line .ensures) in record { state = λ i. e i .state; bytes = rw (← e) (c .before .before .put-row .ensures .0); short = rw (← e) (c .before .before .put-row .ensures .1) })
+returns c =
+    let at-obeyed = c .before .before .before .before .before in
+    let at-read-line = at-obeyed .before in
+    let start = at-read-line .before .before .before in
+    let e = at-obeyed .obeyed .ensures ∙ ap (λ x. obeyed x (start .args .t)) (at-read-line .read-line .ensures) in
+    record { state = λ i. e i .state; bytes = rw (← e) (c .before .before .put-row .ensures .0); short = rw (← e) (c .before .before .put-row .ensures .1) }
 
 pub take-line-spec : {M : Type 1} → statement M
 take-line-spec =

@@ -3,14 +3,14 @@ use borrow.Author.Needs.{needs}
 use Rattle.xl.proofs.step.Statement.{statement}
 use Rattle.xl.proofs.step.Tie as tie
 
-answers-requires : tie.Need-answers-requires
-answers-requires c κs = search needs
+step-of-requires : tie.Need-step-of-requires
+step-of-requires c κs = search needs
 
 anew-requires : tie.Need-anew-requires
 anew-requires c κs = search needs
 
 returns : tie.Need-returns
-returns c = rw (c .anew .ensures, c .before .answers .ensures)
+returns c = rw (c .anew .ensures, c .before .step-of .ensures)
 
 pub step-spec : {M : Type 1} → statement M
-step-spec = tie.close (tie.spec answers-requires anew-requires returns)
+step-spec = tie.close (tie.spec step-of-requires anew-requires returns)

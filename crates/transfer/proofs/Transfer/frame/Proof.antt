@@ -38,8 +38,9 @@ frame-length-requires c κs = search needs
 
 add-self : tie.Need-add-self
 add-self c =
+    let start = c .before .before .before .before .before in
     let off = passed (c .before .before) in
-    let fits = frame-fits limit (c .before .before .before .before .before .args .self) (not-false _ (off .0)) (not-false _ (off .1 .0)) in
+    let fits = frame-fits limit (start .args .self) (not-false _ (off .0)) (not-false _ (off .1 .0)) in
     omega (arith, c .before .frame-length .ensures)
 
 one-more-requires : tie.Need-one-more-requires
@@ -48,8 +49,11 @@ one-more-requires c κs = countable _ _ (lit≤ tt) (passed (c .before .before) 
 returns-2 : tie.Need-returns-2
 unfolding frameStep
 returns-2 c =
-    let s = c .before .before .before .before .before .before .args .self in
-    goes-on (refused s) (framed (frameLength s) s) (frameCauses limit s) (c .before .before .before .before .before .frame-checked .ensures) (c .before .before .before .enum-told .given .1)
+    let at-enum-told = c .before .before .before in
+    let at-frame-checked = at-enum-told .before .before in
+    let start = at-frame-checked .before in
+    let s = start .args .self in
+    goes-on (refused s) (framed (frameLength s) s) (frameCauses limit s) (at-frame-checked .frame-checked .ensures) (at-enum-told .enum-told .given .1)
     (λ i. say Answer.Sent (with s (s .read + c .before .before .frame-length .ensures i) (s .balance) (c .one-more .ensures i) true (s .used) (s .phase)))
 
 pub frame-spec : {M : Type 1} → statement M

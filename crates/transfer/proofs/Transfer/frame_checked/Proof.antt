@@ -3,7 +3,7 @@ use mathlib.Core.Path.{_≡_, sym, _∙_}
 use mathlib.Core.Bool.{true, false}
 use borrow.Author.Needs.{needs}
 use borrow.Author.Tests.{le-leb, lt-leb}
-use Rattle.transfer.specs.Rules.{rules}
+use Rattle.transfer.specs.Rules.{keepsRules}
 use Rattle.transfer.specs.Steps.{limit, unfinished, draining, allSent}
 use Rattle.transfer.specs.declared.Transfer.{Transfer}
 use Rattle.transfer.proofs.Calls.{off, on}
@@ -14,8 +14,8 @@ use Rattle.transfer.proofs.Transfer.frame_checked.Tie as tie
 abbrev first : tie.Else1 → Transfer
 first c = c .before .before .args .self
 
-kept : (c : tie.Else1) → rules limit (first c) ≡ true
-kept c = on (c .before .taken .ensures) (c .if1 .left)
+kept : (c : tie.Else1) → keepsRules limit (first c) ≡ true
+kept c = on (c .before .keeps-rules .ensures) (c .if1 .left)
 
 abbrev second : tie.Else2 → tie.Else1
 second c = c .before .before
@@ -35,11 +35,11 @@ fourth c = c .before .before
 unsent : (c : tie.Else4) → allSent (first (second (third (fourth c)))) ≡ false
 unsent c = sym (c .before .all-sent .ensures) ∙ c .if4 .left
 
-taken-requires : tie.Need-taken-requires
-taken-requires c κs = search needs
+keeps-rules-requires : tie.Need-keeps-rules-requires
+keeps-rules-requires c κs = search needs
 
 returns : tie.Need-returns
-returns c = rw (off (c .before .taken .ensures) (c .if1 .taken))
+returns c = rw (off (c .before .keeps-rules .ensures) (c .if1 .taken))
 
 unfinished-requires : tie.Need-unfinished-requires
 unfinished-requires c κs = search needs
@@ -80,7 +80,7 @@ pub frame-checked-spec : {M : Type 1} → statement M
 frame-checked-spec =
     tie.close
     (tie.spec
-    taken-requires
+    keeps-rules-requires
     returns
     unfinished-requires
     returns-2

@@ -13,7 +13,9 @@ cast-result-2 : tie.Need-cast-result-2
 cast-result-2 c = search needs
 
 returns : tie.Need-returns
-returns c = rw (c .before .before .before .before .before .attempted .ensures)
+returns c =
+    let at-attempted = c .before .before .before .before .before in
+    rw (at-attempted .attempted .ensures)
 
 pub run-rule-spec : {M : Type 1} → statement M
 run-rule-spec = tie.close (tie.spec attempted-requires cast-result cast-result-2 returns)

@@ -3,20 +3,20 @@ use mathlib.Core.Path.{_≡_, sym, _∙_}
 use mathlib.Core.Bool.{not, _||_}
 use borrow.Author.Needs.{needs}
 use Rattle.transfer.specs.Steps.{startStep, limit}
-use Rattle.transfer.specs.Rules.{inRange, rules}
+use Rattle.transfer.specs.Rules.{inRange, keepsRules}
 use Rattle.transfer.proofs.Transfer.start.Statement.{statement}
 use Rattle.transfer.proofs.Transfer.start.Tie as tie
 
 -- what the first test tests
-tested : (c : tie.After-taken)
-    → let a = c .before .before .args in not (inRange (a .b) (a .n) (a .m) (a .r)) || not (rules limit (a .self)) ≡ not (c .before .in-range .result) || not (c .taken .result)
-tested c = sym (λ i. not (c .before .in-range .ensures i) || not (c .taken .ensures i))
+tested : (c : tie.After-keeps-rules)
+    → let a = c .before .before .args in not (inRange (a .b) (a .n) (a .m) (a .r)) || not (keepsRules limit (a .self)) ≡ not (c .before .in-range .result) || not (c .keeps-rules .result)
+tested c = sym (λ i. not (c .before .in-range .ensures i) || not (c .keeps-rules .ensures i))
 
 in-range-requires : tie.Need-in-range-requires
 in-range-requires c κs = search needs
 
-taken-requires : tie.Need-taken-requires
-taken-requires c κs = search needs
+keeps-rules-requires : tie.Need-keeps-rules-requires
+keeps-rules-requires c κs = search needs
 
 refused-requires : tie.Need-refused-requires
 refused-requires c κs = search needs
@@ -47,7 +47,7 @@ start-spec =
     tie.close
     (tie.spec
     in-range-requires
-    taken-requires
+    keeps-rules-requires
     refused-requires
     returns
     unfinished-requires

@@ -30,8 +30,11 @@ in-phase-requires c κs = search needs
 returns-2 : tie.Need-returns-2
 unfolding dropStep dropped
 returns-2 c =
-    let s = c .before .before .before .before .before .before .args .self in
-    goes-on (refused s) (dropped s) (answerCauses limit s) (c .before .before .before .before .before .answer-checked .ensures) (c .before .before .before .enum-told .given .1) (rw (le-leb _ _ (c .before .if1 .taken)) (c .in-phase .ensures))
+    let at-enum-told = c .before .before .before in
+    let at-answer-checked = at-enum-told .before .before in
+    let start = at-answer-checked .before in
+    let s = start .args .self in
+    goes-on (refused s) (dropped s) (answerCauses limit s) (at-answer-checked .answer-checked .ensures) (at-enum-told .enum-told .given .1) (rw (le-leb _ _ (c .before .if1 .taken)) (c .in-phase .ensures))
 
 resent-requires : tie.Need-resent-requires
 resent-requires c κs = search needs
@@ -39,8 +42,11 @@ resent-requires c κs = search needs
 returns-3 : tie.Need-returns-3
 unfolding dropStep dropped
 returns-3 c =
-    let s = c .before .before .before .before .before .before .args .self in
-    goes-on (refused s) (dropped s) (answerCauses limit s) (c .before .before .before .before .before .answer-checked .ensures) (c .before .before .before .enum-told .given .1) (rw (lt-leb _ _ (c .before .if1 .left)) (c .resent .ensures))
+    let at-enum-told = c .before .before .before in
+    let at-answer-checked = at-enum-told .before .before in
+    let start = at-answer-checked .before in
+    let s = start .args .self in
+    goes-on (refused s) (dropped s) (answerCauses limit s) (at-answer-checked .answer-checked .ensures) (at-enum-told .enum-told .given .1) (rw (lt-leb _ _ (c .before .if1 .left)) (c .resent .ensures))
 
 pub timeout-spec : {M : Type 1} → statement M
 timeout-spec =

@@ -7,7 +7,9 @@ is-new-requires : tie.Need-is-new-requires
 is-new-requires c κs = search needs
 
 returns : tie.Need-returns
-returns c = rw (c .before .before .before .before .before .before .before .before .before .is-new .ensures)
+returns c =
+    let at-is-new = c .before .before .before .before .before .before .before .before .before in
+    rw (at-is-new .is-new .ensures)
 
 pub zeros-spec : {M : Type 1} → statement M
 zeros-spec = tie.close (tie.spec is-new-requires returns)

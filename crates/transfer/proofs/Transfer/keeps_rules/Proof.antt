@@ -4,10 +4,10 @@ use mathlib.Core.Path.{_≡_, refl, sym, ap, _∙_}
 use mathlib.Core.Bool.{_||_}
 use borrow.Author.Needs.{needs}
 use Rattle.laws.proofs.Bools.{or-alone}
-use Rattle.transfer.specs.Rules.{endOf, zeros, placed, phaseRule, rules}
+use Rattle.transfer.specs.Rules.{endOf, zeros, placed, phaseRule, keepsRules}
 use Rattle.transfer.proofs.Facts.{placed-says}
-use Rattle.transfer.proofs.Transfer.taken.Statement.{statement}
-use Rattle.transfer.proofs.Transfer.taken.Tie as tie
+use Rattle.transfer.proofs.Transfer.keeps_rules.Statement.{statement}
+use Rattle.transfer.proofs.Transfer.keeps_rules.Tie as tie
 
 zeros-requires : tie.Need-zeros-requires
 zeros-requires c κs = search needs
@@ -34,7 +34,7 @@ phase-rule-requires : tie.Need-phase-rule-requires
 phase-rule-requires c κs = search needs
 
 returns : tie.Need-returns
-unfolding rules
+unfolding keepsRules
 returns c =
     let at-placed = c .before .before .before in
     let at-end = at-placed .before in
@@ -44,11 +44,11 @@ returns c =
     (λ i. at-end .before .zeros .ensures i || (c .phase-rule .ensures ∙ (λ j. phaseRule bound (at-end .end .ensures j) (c .before .frames-out .ensures j) (s .phase) s)) i)
 
 returns-2 : tie.Need-returns-2
-unfolding rules
+unfolding keepsRules
 returns-2 c = rw (is-placed (c .before) ∙ c .if1 .left) (c .before .before .before .zeros .ensures ∙ or-alone (zeros (c .before .before .before .before .args .self)) refl)
 
-pub taken-spec : {M : Type 1} → statement M
-taken-spec =
+pub keeps-rules-spec : {M : Type 1} → statement M
+keeps-rules-spec =
     tie.close
     (tie.spec
     zeros-requires

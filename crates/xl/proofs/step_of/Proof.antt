@@ -1,8 +1,8 @@
 -- The tests that its callees promise decide the causes in order. Assumes nothing.
 use borrow.Author.Needs.{needs}
 use Rattle.xl.specs.Steps.{stepOf}
-use Rattle.xl.proofs.answers.Statement.{statement}
-use Rattle.xl.proofs.answers.Tie as tie
+use Rattle.xl.proofs.step_of.Statement.{statement}
+use Rattle.xl.proofs.step_of.Tie as tie
 
 brings-unlisted-requires : tie.Need-brings-unlisted-requires
 brings-unlisted-requires c κs = search needs
@@ -31,8 +31,8 @@ returns-3 : tie.Need-returns-3
 unfolding stepOf
 returns-3 c = rw (c .takes .ensures, ← c .before .before .keeps-rules .ensures, ← c .before .before .before .before .brings-unlisted .ensures, c .before .if2 .left, c .before .before .before .if1 .left)
 
-pub answers-spec : {M : Type 1} → statement M
-answers-spec =
+pub step-of-spec : {M : Type 1} → statement M
+step-of-spec =
     tie.close
     (tie.spec
     brings-unlisted-requires
