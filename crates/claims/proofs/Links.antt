@@ -32,7 +32,7 @@ use Rattle.xl.specs.Rules.{keepsRules}
 use Rattle.xl.specs.Steps.{opened, stepOf, receiveOf}
 use Rattle.xl.specs.Status.{statusOf}
 use Rattle.xl_calls.specs.Links.{Call, event, bytes, callOf, run, surprises, brought, frames, names, some, listOf, gapless, Shows, In}
-use Rattle.xl_calls.specs.Met.{transmitted, aipMet, openMet, breakSent, breakForwarded, blockedMet, statusMet, closeMet, sendCloseMet}
+use Rattle.xl_calls.specs.Memory.{transmitted, aipMet, openMet, breakSent, breakForwarded, blockedMet, statusMet, closeMet, sendCloseMet}
 use Rattle.xl_calls.specs.After.{after, history, answers, Crossed, Remembered, Backs, Connected}
 use Rattle.xl_calls.specs.Statuses.{Waits}
 use Rattle.xl_parts.specs.Path.{releases}

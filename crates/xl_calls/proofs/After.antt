@@ -35,7 +35,8 @@ use Rattle.xl_rows.proofs.Sentences as rows
 use Rattle.xl.specs.Rules.{keepsRules}
 use Rattle.xl.specs.Steps.{causes, hasFrame, refused, stepOf}
 use Rattle.xl_calls.specs.Links.{Call, event, callOf, run, isDone}
-use Rattle.xl_calls.specs.Met.{Met, saidIn, frameIn, noted, met, transmitted, aipMet, openMet, breakSent, breakForwarded, blockedMet, closeMet, sendCloseMet}
+use Rattle.xl_calls.specs.Met.{Met, saidIn, frameIn, noted, met}
+use Rattle.xl_calls.specs.Memory.{transmitted, aipMet, openMet, breakSent, breakForwarded, blockedMet, closeMet, sendCloseMet}
 use Rattle.xl_calls.specs.After.{after, history, filled, answers, Answers, Crossed, Remembered, Connected, in7, in8}
 use Rattle.xl_calls.proofs.Kept.{kept, ready-keeps}
 use Rattle.xl_calls.proofs.Seen.{knows}

@@ -39,7 +39,8 @@ use Rattle.xl_rows.specs.Sentences.{link}
 use Rattle.xl_rows.proofs.Rows.{Every}
 use Rattle.xl.specs.Steps.{causes, refused, opened, stepOf, receiveOf}
 use Rattle.xl_calls.specs.Links.{Call, event, bytes, callOf, run}
-use Rattle.xl_calls.specs.Met.{Met, blockedMet, statusMet, saidIn, frameRead, frameIn, noted, met, transmitted, aipMet, openMet, breakSent, breakForwarded, closeMet, sendCloseMet}
+use Rattle.xl_calls.specs.Met.{Met, saidIn, frameRead, frameIn, noted, met}
+use Rattle.xl_calls.specs.Memory.{blockedMet, statusMet, transmitted, aipMet, openMet, breakSent, breakForwarded, closeMet, sendCloseMet}
 use Rattle.xl_calls.proofs.Looked.{looked}
 
 -- XL2, since an OPEN was forwarded

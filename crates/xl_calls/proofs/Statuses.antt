@@ -18,7 +18,7 @@ use Rattle.xl.specs.Rules.{keepsRules}
 use Rattle.xl.specs.Status.{waiting, inPhase, statusCauses, statusOf}
 use Rattle.xl_parts.specs.Parts.{ready}
 use Rattle.xl_calls.specs.Links.{Call}
-use Rattle.xl_calls.specs.Met.{aipMet, statusMet}
+use Rattle.xl_calls.specs.Memory.{aipMet, statusMet}
 use Rattle.xl_calls.specs.After.{after, history}
 use Rattle.xl_calls.specs.Statuses.{Waits, Statuses}
 use Rattle.xl_calls.proofs.Kept.{kept, ready-keeps}

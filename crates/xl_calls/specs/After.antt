@@ -16,7 +16,8 @@ use Rattle.xl_parts.specs.declared.Stepped.{Stepped}
 use Rattle.xl_parts.specs.Parts.{Effect, ready}
 use Rattle.xl_rows.specs.Sentences.{BacksOff}
 use Rattle.xl_calls.specs.Links.{Call, run}
-use Rattle.xl_calls.specs.Met.{Met, met, transmitted, openMet, breakSent}
+use Rattle.xl_calls.specs.Met.{Met, met}
+use Rattle.xl_calls.specs.Memory.{transmitted, openMet, breakSent}
 
 -- the link after some calls from XL0
 abbrev pub after : List Call → State

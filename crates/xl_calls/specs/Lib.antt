@@ -2,5 +2,7 @@
 pub mod Path
 pub mod Links
 pub mod Met
+pub mod Marks
+pub mod Memory
 pub mod After
 pub mod Statuses

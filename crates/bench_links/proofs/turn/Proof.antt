@@ -25,7 +25,9 @@ mix-requires : tie.Need-mix-requires
 mix-requires c κs = search needs
 
 returns : tie.Need-returns
-returns c = rw (c .mix .ensures, c .before .weight4 .ensures, c .before .before .weight3 .ensures, c .before .before .before .weight2 .ensures, c .before .before .before .before .weight .ensures, c .before .before .before .before .before .phase-number .ensures, c .before .before .before .before .before .before .before .before .step .ensures)
+returns c =
+    let first = c .before .before .before .before in
+    rw (c .mix .ensures, c .before .weight4 .ensures, c .before .before .weight3 .ensures, c .before .before .before .weight2 .ensures, first .weight .ensures, first .before .phase-number .ensures, first .before .before .before .before .step .ensures)
 
 pub turn-spec : {M : Type 1} → statement M
 turn-spec =
