@@ -78,7 +78,7 @@ pub fn aip_of(n: u8) -> AipRead
     }
 }
 
-// 48 to 51 in the order in which a link is taken up; a refused state's is the refusal's own number.
+// 48 to 51; a refused state's is the refusal's own number.
 pub fn status_number(a: LinkStatus) -> u8
     ensures { λ r. ⌜ r ≡ statusNumber a ⌝ }
 {

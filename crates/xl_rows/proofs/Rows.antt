@@ -6,7 +6,7 @@ use mathlib.Core.Path.{_≡_, refl, sym}
 use Rattle.laws.proofs.Bools.{never}
 use Rattle.xl_parts.specs.Parts.{Effect}
 use Rattle.xl_parts.specs.Kinds.{Kind}
-use Rattle.xl_rows.specs.Table.{Row, fits, listed, look}
+use Rattle.xl_rows.specs.Rows.{Row, fits, listed, look}
 
 -- P holds of what each row does that fits
 abbrev pub Every : Kind → (Effect → Type 0) → List Row → Type 0

@@ -1,7 +1,7 @@
 -- Document 01, 'XL': its table. Each row of document 01 stands here once, state by state; an event that no row of its state names is
 -- unexpected. `Line` is what the phy receives, `Router` and `Manager` what these two say, `Own` what the link tells itself. Assumes nothing.
 use Prim.Native.Nat.{ℕ, _+_, min}
-use mathlib.Core.Bool.{Bool, true, false, not, cond, _&&_, _||_}
+use mathlib.Core.Bool.{Bool, true, false, not, cond, _&&_}
 use mathlib.Core.List.{List, [], _∷_}
 use lib.Dec.{eqb}
 use Rattle.open_frame.specs.declared.OpenFrame.{OpenFrame}
@@ -29,33 +29,8 @@ use Rattle.xl_parts.specs.declared.Seen.the-variants.{Never, Latest}
 use Rattle.xl_parts.specs.declared.Memory.{Memory}
 use Rattle.xl_parts.specs.declared.State.{State}
 use Rattle.xl_parts.specs.Parts.{Effect, forgets, remembering, holding, hearing, seeing, breaking, closing, blocking, entered, onEntry, stay, to, first}
-use Rattle.xl_parts.specs.Kinds.{Kind, kindOf, same, Said, saidBy, waitIn, rejectIn, denialIn, arbitrationIn}
-
--- a row: events of one kind, and what they do while `given` holds
-pub record Row : Type 0 where
-  pub kind : Kind
-  pub given : Bool
-  pub does : Effect
-
-infix 10 _⇒_
-abbrev pub _⇒_ : Event → Effect → Row
-e ⇒ x = record { kind = kindOf e; given = true; does = x }
-
-infix 9 _unless_
-abbrev pub _unless_ : Row → Bool → Row
-r unless b = record { kind = r .kind; given = not b; does = r .does }
-
-abbrev pub fits : Kind → Row → Bool
-fits k r = same k (r .kind) && r .given
-
-abbrev pub listed : Kind → List Row → Bool
-listed k [] = false
-listed k (r ∷ rs) = fits k r || listed k rs
-
--- what the first row that fits does, or else `otherwise`
-abbrev pub look : Kind → List Row → Effect → Effect
-look k [] otherwise = otherwise
-look k (r ∷ rs) otherwise = cond (fits k r) (r .does) (look k rs otherwise)
+use Rattle.xl_parts.specs.Kinds.{kindOf, Said, saidBy, waitIn, rejectIn, denialIn, arbitrationIn}
+use Rattle.xl_rows.specs.Rows.{Row, _⇒_, _unless_, listed, look}
 
 -- 01 XL.2: An event not listed for the state changes only the unexpected-event count (it stops at 4,294,967,295).
 abbrev pub counted : ℕ → ℕ

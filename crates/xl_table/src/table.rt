@@ -14,35 +14,6 @@ use xl_parts::Phase;
 use xl_parts::Seen;
 use xl_parts::State;
 
-// The kinds of events, in the order of the cells.
-fn kinds() -> [u8; 23] {
-    [
-        1,
-        2,
-        3,
-        4,
-        5,
-        16,
-        17,
-        19,
-        20,
-        21,
-        22,
-        23,
-        32,
-        33,
-        34,
-        35,
-        48,
-        49,
-        50,
-        6,
-        18,
-        51,
-        63,
-    ]
-}
-
 // The cell of an event, if the code names one.
 fn print_coded(s: State, kind: u8, detail: u8) {
     let read = codes::event_of(Code { kind, detail });
@@ -59,6 +30,30 @@ fn print_kind(s: State, kind: u8) {
     }
 }
 
+// The cells of BREAK's events and of Disable come behind all others.
+fn is_late(kind: u8) -> bool {
+    match kind {
+        6 | 18 | 51 | 63 => true,
+        _ => false,
+    }
+}
+
+// A number that is no event's kind has no cell.
+fn print_early(s: State) {
+    for kind in 0..64 {
+        if !is_late(kind) {
+            print_kind(s, kind);
+        }
+    }
+}
+
+fn print_late(s: State) {
+    print_kind(s, 6);
+    print_kind(s, 18);
+    print_kind(s, 51);
+    print_kind(s, 63);
+}
+
 fn status_sign(a: LinkStatus) -> u8 {
     match a {
         LinkStatus::Ready => b'R',
@@ -71,15 +66,13 @@ fn status_sign(a: LinkStatus) -> u8 {
 
 fn print_line(phase: Phase, m: Memory) {
     let s = cells::state(phase, m);
-    let all = kinds();
     ink::number(states::phase_number(phase));
     ink::sign(b'\t');
     cells::print_memory(m);
     ink::sign(b'\t');
     ink::sign(status_sign(xl::status(s)));
-    for i in 0..23 {
-        print_kind(s, all[i]);
-    }
+    print_early(s);
+    print_late(s);
     ink::sign(b'\n');
 }
 

@@ -14,7 +14,8 @@ use Rattle.xl_parts.proofs.BreakEvent as break-event
 use Rattle.xl_parts.proofs.Phase as phase
 use Rattle.xl_parts.specs.Kinds.{kindOf}
 use Rattle.xl_parts.specs.Parts.{to, done}
-use Rattle.xl_rows.specs.Table.{Row, look, unexpected, breakRows, onBreak}
+use Rattle.xl_rows.specs.Rows.{Row, look}
+use Rattle.xl_rows.specs.Table.{unexpected, breakRows, onBreak}
 use Rattle.xl_core.proofs.states.on_break.Statement.{statement}
 use Rattle.xl_core.proofs.states.on_break.Tie as tie
 
