@@ -10,7 +10,7 @@ use Rattle.xl_parts.specs.declared.Stepped.{Stepped}
 use Rattle.xl_parts.specs.Parts.{ready}
 use Rattle.xl_numbers.specs.declared.codes.Code.{Code}
 use Rattle.xl_numbers.specs.declared.codes.EventRead.{EventRead}
-use Rattle.xl_numbers.specs.States.{phaseNumber}
+use Rattle.xl_parts.specs.Parts.{phaseNumber}
 use Rattle.xl_numbers.specs.Codes.{coded, eventOf}
 use Rattle.xl.specs.Steps.{stepOf}
 use Rattle.bench_links.specs.declared.Tally.{Tally}

@@ -21,7 +21,8 @@ use Rattle.xl_numbers.specs.declared.codes.EventRead.{EventRead}
 use Rattle.xl_numbers.specs.declared.codes.ActionRead.{ActionRead}
 use Rattle.xl_numbers.specs.Names.{Named}
 use Rattle.xl_numbers.specs.Details.{waitNumber, waitOf, rejectNumber, rejectOf, denialNumber, denialOf, arbitrationNumber, arbitrationOf}
-use Rattle.xl_numbers.specs.States.{phaseNumber, phaseOf, aipNumber, aipOf, statusNumber}
+use Rattle.xl_parts.specs.Parts.{phaseNumber}
+use Rattle.xl_numbers.specs.States.{phaseOf, aipNumber, aipOf, statusNumber}
 use Rattle.xl_numbers.specs.Codes.{eventNumber, eventOf, actionNumber, actionOf}
 use Rattle.xl_numbers.proofs.KindTrips.{wait-named, reject-named, denial-named, arbitration-named}
 use Rattle.xl_numbers.proofs.StateTrips.{phase-named, aip-named, one-status}

@@ -18,7 +18,8 @@ use Rattle.xl_parts.specs.declared.LinkStatus.the-variants.{Ready, Partial, Blo
 use Rattle.xl_numbers.specs.declared.states.PhaseRead.{PhaseRead}
 use Rattle.xl_numbers.specs.declared.states.AipRead.{AipRead}
 use Rattle.xl_numbers.specs.Names.{Named}
-use Rattle.xl_numbers.specs.States.{phaseNumber, phases, phaseOf, aipNumber, aips, aipOf, statusNumber}
+use Rattle.xl_parts.specs.Parts.{phaseNumber}
+use Rattle.xl_numbers.specs.States.{phases, phaseOf, aipNumber, aips, aipOf, statusNumber}
 use Rattle.xl_numbers.proofs.Lists.{Each, each-at}
 
 -- a list whose members name values, each in the place of the value's number

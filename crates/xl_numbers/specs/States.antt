@@ -12,19 +12,6 @@ use Rattle.xl_numbers.specs.declared.states.PhaseRead.{PhaseRead}
 use Rattle.xl_numbers.specs.declared.states.AipRead.{AipRead}
 use Rattle.xl_numbers.specs.Details.{waitNumber}
 
-abbrev pub phaseNumber : Phase → ℕ
-phaseNumber Phase.Xl0 = 0
-phaseNumber Phase.Xl1 = 1
-phaseNumber Phase.Xl2 = 2
-phaseNumber Phase.Xl3 = 3
-phaseNumber Phase.Xl4 = 4
-phaseNumber Phase.Xl5 = 5
-phaseNumber Phase.Xl6 = 6
-phaseNumber Phase.Xl7 = 7
-phaseNumber Phase.Xl8 = 8
-phaseNumber Phase.Xl9 = 9
-phaseNumber Phase.Xl10 = 10
-
 abbrev pub phases : List PhaseRead
 phases =
     PhaseRead.Named Phase.Xl0

@@ -1,6 +1,7 @@
 // What a link's state has besides frames, flags and the count, and its status. A number that names nothing is told from one that does.
 ghost use mathlib.Core.Path.{_≡_};
-ghost use Rattle.xl_numbers.specs.States.{phaseNumber, phaseOf, aipNumber, aipOf, statusNumber};
+ghost use Rattle.xl_parts.specs.Parts.{phaseNumber};
+ghost use Rattle.xl_numbers.specs.States.{phaseOf, aipNumber, aipOf, statusNumber};
 use crate::details;
 use xl_parts::LinkStatus;
 use xl_parts::Phase;

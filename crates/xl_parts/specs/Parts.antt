@@ -1,4 +1,5 @@
 -- Document 01, 'XL': what a link remembers, what entering a state clears and does, and the form of a row's effect. Assumes nothing.
+use Prim.Native.Nat.{ℕ}
 use mathlib.Core.Bool.{Bool, true, false}
 use mathlib.Core.List.{List, [], _∷_, _++_}
 use Rattle.open_frame.specs.declared.OpenFrame.{OpenFrame}
@@ -15,6 +16,21 @@ use Rattle.xl_parts.specs.declared.Memory.{Memory}
 use Rattle.xl_parts.specs.declared.State.{State}
 use Rattle.xl_parts.specs.declared.Answer.{Answer}
 use Rattle.xl_parts.specs.declared.Stepped.{Stepped}
+
+-- 01 XL.4
+-- a state's number, which is its name in document 01
+abbrev pub phaseNumber : Phase → ℕ
+phaseNumber Phase.Xl0 = 0
+phaseNumber Phase.Xl1 = 1
+phaseNumber Phase.Xl2 = 2
+phaseNumber Phase.Xl3 = 3
+phaseNumber Phase.Xl4 = 4
+phaseNumber Phase.Xl5 = 5
+phaseNumber Phase.Xl6 = 6
+phaseNumber Phase.Xl7 = 7
+phaseNumber Phase.Xl8 = 8
+phaseNumber Phase.Xl9 = 9
+phaseNumber Phase.Xl10 = 10
 
 abbrev pub nothing : Memory
 nothing = record { held = Held.Nothing; heard = Held.Nothing; aip = Seen.Never; broke = false; close = false; blocked = false }

@@ -29,7 +29,7 @@ use Rattle.xl_parts.specs.declared.Seen.the-variants.{Never, Latest}
 use Rattle.xl_parts.specs.declared.Memory.{Memory}
 use Rattle.xl_parts.specs.declared.State.{State}
 use Rattle.xl_parts.specs.Parts.{Effect}
-use Rattle.xl_numbers.specs.States.{phaseNumber}
+use Rattle.xl_parts.specs.Parts.{phaseNumber}
 
 abbrev pub oneOf : Phase → List Phase → Bool
 oneOf p [] = false
