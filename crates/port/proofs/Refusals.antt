@@ -18,7 +18,8 @@ use Rattle.port_parts.specs.declared.Reason.{Reason}
 use Rattle.port_parts.specs.declared.Port.{Port}
 use Rattle.port_parts.specs.declared.Request.{Request}
 use Rattle.port_rows.specs.Finds.{roomOf, slotOf}
-use Rattle.port_rows.specs.Calls.{phyAt, isCancelled, closingPhy, marked, sent, opening, closing, idle, failedWord, isNexusLost, submitted, cancelled, chosen, connected, failed, framed, closedDone, disabledDone, setupCore, submitCore, cancelCore, chooseCore, openedCore, openFailedCore, frameStatusCore, closedCore, enableCore, disableCore}
+use Rattle.port_rows.specs.Calls.{phyAt, isCancelled, closingPhy, sent, opening, closing, idle, failedWord, isNexusLost, submitted, cancelled, chosen, connected, failed, framed, closedDone, disabledDone, setupCore, submitCore, cancelCore, chooseCore, openedCore, openFailedCore, frameStatusCore, closedCore, enableCore, disableCore}
+use Rattle.port_rows.specs.Changed.{marked}
 use Rattle.port_rows.specs.Answers.{withPhy, fresh, unconnectedPhy, noLoss, unnamed, refusedBy, said, stored, ended}
 use Rattle.port_rows.specs.Answers as answers
 use Rattle.port_rows.specs.declared.Done.{Done}

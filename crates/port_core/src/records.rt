@@ -1,6 +1,6 @@
 // Document 01, 'Port': a record with some of its fields changed.
 ghost use mathlib.Core.Path.{_≡_};
-ghost use Rattle.port_rows.specs.Calls.{placed, marked, waited, timed};
+ghost use Rattle.port_rows.specs.Changed.{placed, marked, waited, timed};
 use open_frame::Awt;
 use open_frame::Pbc;
 use port_parts::Request;

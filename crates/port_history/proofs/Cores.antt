@@ -25,7 +25,8 @@ use Rattle.port_parts.specs.declared.Request.{Request}
 use Rattle.port_parts.proofs.Choices.{choose-right}
 use Rattle.port_rules.specs.Rules.{rules}
 use Rattle.port_rules.specs.Kept.{Free}
-use Rattle.port_rows.specs.Calls.{placed, phyAt, isCancelled, isJoined, submitted, cancelled, sent, opening, closing, idle, chosen, connected, again, timerAfter, isNexusLost, failed, framed, closedDone, disabledDone, submitCauses, cancelCauses, phyCauses, failedCauses}
+use Rattle.port_rows.specs.Changed.{placed}
+use Rattle.port_rows.specs.Calls.{phyAt, isCancelled, isJoined, submitted, cancelled, sent, opening, closing, idle, chosen, connected, again, timerAfter, isNexusLost, failed, framed, closedDone, disabledDone, submitCauses, cancelCauses, phyCauses, failedCauses}
 use Rattle.port_rows.specs.Finds.{roomOf, slotOf}
 use Rattle.port_rows.specs.declared.Confirmed.{Confirmed}
 use Rattle.port_rows.specs.declared.Done.{Done}

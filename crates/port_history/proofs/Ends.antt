@@ -22,7 +22,8 @@ use Rattle.port_rules.specs.Rules.{rules}
 use Rattle.port_rules.specs.Kept.{Free, Present}
 use Rattle.port_rules.proofs.Facts.{rules-say}
 use Rattle.port_rows.specs.Answers.{later, withPhy, noLoss, refusedBy, said, stored, ended}
-use Rattle.port_rows.specs.Calls.{placed, phyAt, isCancelled, cancelled, disabledDone, cancelCauses, phyCauses, cancelCore, disableCore}
+use Rattle.port_rows.specs.Changed.{placed}
+use Rattle.port_rows.specs.Calls.{phyAt, isCancelled, cancelled, disabledDone, cancelCauses, phyCauses, cancelCore, disableCore}
 use Rattle.port_rows.specs.Finds.{hasKey, slotOf}
 use Rattle.port_rows.specs.declared.Confirmed.{Confirmed}
 use Rattle.port_rows.specs.declared.Done.{Done}

@@ -13,7 +13,8 @@ use Rattle.port_parts.specs.declared.Pick.{Pick}
 use Rattle.port_parts.specs.declared.Port.{Port}
 use Rattle.port_parts.specs.declared.Request.{Request}
 use Rattle.port_parts.specs.declared.Stamp.{Stamp}
-use Rattle.port_rows.specs.Calls.{timed, submitted, phyAt, sent, opening, closing}
+use Rattle.port_rows.specs.Changed.{timed}
+use Rattle.port_rows.specs.Calls.{submitted, phyAt, sent, opening, closing}
 use Rattle.port_rows.specs.Finds.{roomOf, slotOf}
 use Rattle.port_rows.specs.declared.Confirmed.{Confirmed}
 use Rattle.port_rows.specs.declared.Done.{Done}

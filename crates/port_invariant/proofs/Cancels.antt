@@ -15,7 +15,8 @@ use Rattle.port_parts.specs.declared.Port.{Port}
 use Rattle.port_parts.specs.declared.Request.{Request}
 use Rattle.port_rules.specs.Kept.{PhyKept, Free, Present, Kept}
 use Rattle.port_rows.specs.Answers.{stagedPhy, noLoss}
-use Rattle.port_rows.specs.Calls.{marked, phyAt, closingPhy, cancelled}
+use Rattle.port_rows.specs.Changed.{marked}
+use Rattle.port_rows.specs.Calls.{phyAt, closingPhy, cancelled}
 use Rattle.port_rows.specs.declared.Done.{Done}
 use Rattle.port.specs.Calls.{leftOf}
 use Rattle.port_invariant.proofs.Changes.{changed}

@@ -18,7 +18,8 @@ use Rattle.port_parts.specs.declared.Request.{Request}
 use Rattle.port_parts.specs.declared.Stamp.{Stamp}
 use Rattle.port_rules.specs.Kept.{PhyKept, Free, Present, Kept}
 use Rattle.port_rows.specs.Answers.{withPhy, openingPhy, stagedPhy, noLoss}
-use Rattle.port_rows.specs.Calls.{placed, marked, waited, phyAt, firstOpen, sent, opening, closing, idle, chosen}
+use Rattle.port_rows.specs.Changed.{placed, marked, waited}
+use Rattle.port_rows.specs.Calls.{phyAt, firstOpen, sent, opening, closing, idle, chosen}
 use Rattle.port_rows.specs.declared.Answer.{Answer}
 use Rattle.port_rows.specs.declared.Done.{Done}
 use Rattle.port.specs.Calls.{leftOf}

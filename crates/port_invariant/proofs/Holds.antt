@@ -15,7 +15,8 @@ use Rattle.port_parts.specs.declared.Port.{Port}
 use Rattle.port_parts.specs.declared.Request.{Request}
 use Rattle.port_parts.specs.declared.Stamp.{Stamp}
 use Rattle.port_rules.specs.Kept.{Free, MustName, PhyKept, Present, Kept}
-use Rattle.port_rows.specs.Calls.{phyAt, timed}
+use Rattle.port_rows.specs.Calls.{phyAt}
+use Rattle.port_rows.specs.Changed.{timed}
 use Rattle.port_invariant.proofs.Links.{On}
 
 -- ---- records

@@ -20,7 +20,8 @@ use Rattle.port_parts.specs.declared.Request.{Request}
 use Rattle.port_parts.specs.declared.Stamp.{Stamp}
 use Rattle.port_rules.specs.Kept.{MustName, PhyKept, Free, Present, Kept}
 use Rattle.port_rows.specs.Answers.{unconnectedPhy, joinedPhy, lossBy}
-use Rattle.port_rows.specs.Calls.{timed, phyAt, isCancelled, connected, again, timerAfter, isAgain, failed}
+use Rattle.port_rows.specs.Changed.{timed}
+use Rattle.port_rows.specs.Calls.{phyAt, isCancelled, connected, again, timerAfter, isAgain, failed}
 use Rattle.port_rows.specs.declared.Done.{Done}
 use Rattle.port.specs.Calls.{leftOf, onPhy}
 use Rattle.port_invariant.proofs.Changes.{Entered, changed}

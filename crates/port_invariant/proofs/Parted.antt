@@ -15,7 +15,8 @@ use Rattle.port_parts.specs.declared.Port.{Port}
 use Rattle.port_parts.specs.declared.Request.{Request}
 use Rattle.port_rules.specs.Kept.{PhyKept, Present, Kept}
 use Rattle.port_rows.specs.Answers.{withPhy, unconnectedPhy, stagedPhy, noLoss}
-use Rattle.port_rows.specs.Calls.{placed, phyAt, isCancelled, framed, closedDone, disabledDone}
+use Rattle.port_rows.specs.Changed.{placed}
+use Rattle.port_rows.specs.Calls.{phyAt, isCancelled, framed, closedDone, disabledDone}
 use Rattle.port_rows.specs.declared.Answer.{Answer}
 use Rattle.port_rows.specs.declared.Confirmed.{Confirmed}
 use Rattle.port_rows.specs.declared.Loss.{Loss}

@@ -15,7 +15,7 @@ use Rattle.port_parts.specs.declared.Request.{Request}
 use Rattle.port_parts.specs.declared.Stamp.{Stamp}
 use Rattle.port_rules.specs.Kept.{Free, Present, SameKey, SameNexus, SameTimer, Apart}
 use Rattle.port_rows.specs.Answers.{lossBy}
-use Rattle.port_rows.specs.Calls.{timed}
+use Rattle.port_rows.specs.Changed.{timed}
 use Rattle.port_rows.specs.declared.Loss.{Loss}
 use Rattle.port_rows.specs.Records.{spread}
 use Rattle.port_invariant.proofs.Holds.{Dated, present-later, present-timed}

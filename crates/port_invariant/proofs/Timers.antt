@@ -14,7 +14,8 @@ use Rattle.port_parts.specs.declared.Phy.{Phy}
 use Rattle.port_parts.specs.declared.Reason.{Reason}
 use Rattle.port_parts.specs.declared.Request.{Request}
 use Rattle.port_rules.specs.Kept.{Free}
-use Rattle.port_rows.specs.Calls.{phyAt, timed, again, isAgain, timerAfter, failed}
+use Rattle.port_rows.specs.Calls.{phyAt, again, isAgain, timerAfter, failed}
+use Rattle.port_rows.specs.Changed.{timed}
 use Rattle.port_rows.specs.declared.Done.{Done}
 use Rattle.port_rows.specs.declared.Failure.{Failure}
 use Rattle.port_rows.proofs.Timers.{timer-stays, unchanged-by}

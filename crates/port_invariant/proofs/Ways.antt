@@ -14,7 +14,8 @@ use Rattle.port_parts.specs.declared.Port.{Port}
 use Rattle.port_parts.specs.declared.Reason.{Reason}
 use Rattle.port_parts.specs.declared.Request.{Request}
 use Rattle.port_rows.specs.Answers.{later, withPhy, unconnectedPhy, joinedPhy, stagedPhy, noLoss, lossBy, said, stored, ended}
-use Rattle.port_rows.specs.Calls.{placed, marked, timed, phyAt, closingPhy, submitted, again, timerAfter, cancelled, sent, opening, closing, idle, chosen}
+use Rattle.port_rows.specs.Changed.{placed, marked, timed}
+use Rattle.port_rows.specs.Calls.{phyAt, closingPhy, submitted, again, timerAfter, cancelled, sent, opening, closing, idle, chosen}
 use Rattle.port_rows.specs.Finds.{roomOf}
 use Rattle.port_rows.specs.declared.Confirmed.{Confirmed}
 use Rattle.port_rows.specs.declared.Done.{Done}

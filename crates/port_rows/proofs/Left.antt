@@ -18,7 +18,8 @@ use Rattle.port_parts.specs.declared.Pick.{Pick}
 use Rattle.port_parts.specs.declared.Port.{Port}
 use Rattle.port_parts.specs.declared.Request.{Request}
 use Rattle.port_parts.specs.declared.Stamp.{Stamp}
-use Rattle.port_rows.specs.Calls.{timed, phyAt, chosen, cancelled, isCancelled, isJoined, setupCore, submitCore, cancelCore, chooseCore, openedCore, openFailedCore, frameStatusCore, closedCore, enableCore, disableCore}
+use Rattle.port_rows.specs.Changed.{timed}
+use Rattle.port_rows.specs.Calls.{phyAt, chosen, cancelled, isCancelled, isJoined, setupCore, submitCore, cancelCore, chooseCore, openedCore, openFailedCore, frameStatusCore, closedCore, enableCore, disableCore}
 use Rattle.port_rows.specs.Records.{spread}
 use Rattle.port_rows.specs.declared.Word.the-variants.{StopArb, Close, ConnectionLost, Status, Waiting}
 use Rattle.port_rows.specs.declared.Answer.{Answer}

@@ -25,6 +25,7 @@ use Rattle.port_parts.specs.declared.Reason.{Reason}
 use Rattle.port_parts.specs.declared.Request.{Request}
 use Rattle.port_parts.specs.declared.Stamp.{Stamp}
 use Rattle.port_rows.specs.Answers.{later, withPhy, fresh, noPort, unconnectedPhy, openingPhy, joinedPhy, stagedPhy, noLoss, lossBy, unnamed, refusedBy, said, stored, ended}
+use Rattle.port_rows.specs.Changed.{placed, marked, waited, timed}
 use Rattle.port_rows.specs.declared.Answer.{Answer}
 use Rattle.port_rows.specs.declared.Word.{Word}
 use Rattle.port_rows.specs.declared.Word.the-variants.{Taken, Submitted, Nothing, Send, Open, Close, StopArb, Retried, Waiting, CancelAcknowledged, Ended, NexusLoss, ConnectionLost, Status}
@@ -35,71 +36,6 @@ use Rattle.port_rows.specs.declared.Confirmed.{Confirmed}
 use Rattle.port_rows.specs.declared.Failure.{Failure}
 use Rattle.port_rows.specs.declared.Report.{Report}
 use Rattle.port_rows.specs.declared.Done.{Done}
-
--- a record with these in place of its own
-abbrev pub placed : Request → ℕ → ℕ → Request
-placed r n phy =
-    record {
-      stage = n;
-      phy = phy;
-      cancelled = r .cancelled;
-      closed = r .closed;
-      pbc = r .pbc;
-      awt = r .awt;
-      head = r .head;
-      submitted = r .submitted;
-      retry = r .retry;
-      first = r .first;
-      loss = r .loss;
-    }
-
-abbrev pub marked : Request → ℕ → ℕ → Request
-marked r cancelled closed =
-    record {
-      stage = r .stage;
-      phy = r .phy;
-      cancelled = cancelled;
-      closed = closed;
-      pbc = r .pbc;
-      awt = r .awt;
-      head = r .head;
-      submitted = r .submitted;
-      retry = r .retry;
-      first = r .first;
-      loss = r .loss;
-    }
-
-abbrev pub waited : Request → Pbc → Awt → Stamp → Stamp → Request
-waited r pbc awt retry first =
-    record {
-      stage = r .stage;
-      phy = r .phy;
-      cancelled = r .cancelled;
-      closed = r .closed;
-      pbc = pbc;
-      awt = awt;
-      head = r .head;
-      submitted = r .submitted;
-      retry = retry;
-      first = first;
-      loss = r .loss;
-    }
-
-abbrev pub timed : Request → Stamp → Request
-timed r loss =
-    record {
-      stage = r .stage;
-      phy = r .phy;
-      cancelled = r .cancelled;
-      closed = r .closed;
-      pbc = r .pbc;
-      awt = r .awt;
-      head = r .head;
-      submitted = r .submitted;
-      retry = r .retry;
-      first = r .first;
-      loss = loss;
-    }
 
 abbrev pub isCancelled : Request → Bool
 isCancelled r = eqb (r .cancelled) yes

@@ -4,7 +4,7 @@ use mathlib.Core.Bool.{not, cond, _&&_}
 use lib.Dec.{eqb}
 use Rattle.port_parts.specs.Parts.{blank, isFree, isSsp}
 use Rattle.port_parts.specs.declared.Request.{Request}
-use Rattle.port_rows.specs.Calls.{timed}
+use Rattle.port_rows.specs.Changed.{timed}
 use Rattle.port_rows.specs.declared.Loss.{Loss}
 use Rattle.port_rows.specs.declared.Done.{Done}
 
