@@ -23,7 +23,7 @@ use Rattle.transfer.proofs.Balance.{at-first}
 use Rattle.transfer.proofs.Calls.{underway}
 use Rattle.transfer.proofs.Exact.{keeps-rules}
 use Rattle.transfer.proofs.Three.{none, unbroken, three}
-use Rattle.transfer.proofs.Asked.{Asks, asks}
+use Rattle.transfer.proofs.Request.{Asks, asks}
 use Rattle.transfer.proofs.Words.{Tally, tallied, says, read-is}
 use Rattle.transfer.proofs.Finished.{Stays, stays}
 use Rattle.send.specs.Send.{headOf, nextCauses, nextStep}

@@ -5,7 +5,7 @@ pub mod Invariant
 mod Effects
 pub mod Balance
 pub mod Demand
-pub mod Asked
+pub mod Request
 pub mod Words
 pub mod Finished
 pub mod Shape
