@@ -240,18 +240,18 @@ module _ (m : Memory) (n : ℕ) (f : OpenFrame) (ms : List Met) where
   in8 (Break BreakEvent.Timeout) h = h
   in8 Disable h = refl
 
-  told : (p : Phase) (e : Event) → Knows p m ms → After p e (takes f e (at p))
-  told Xl0 e h = by-rows Xl0 e (λ x. ((λ q. (h, refl)), ((λ q. sends-open h), tt))) tt h
-  told Xl1 e h = in1 e h
-  told Xl2 e h = in2 e h
-  told Xl3 e h = in3 e h
-  told Xl4 e h = by-rows Xl4 e (λ x. ((λ q. refl), tt)) tt tt
-  told Xl5 e h = in5 e h
-  told Xl6 e h = in6 e h
-  told Xl7 e h = in7 e h
-  told Xl8 e h = in8 e h
-  told Xl9 e h = by-rows Xl9 e (λ x. ((λ q. refl), tt)) tt tt
-  told Xl10 e h = by-rows Xl10 e (λ x. tt) ((λ q. refl), ((λ q. refl), tt)) tt
+  each-state : (p : Phase) (e : Event) → Knows p m ms → After p e (takes f e (at p))
+  each-state Xl0 e h = by-rows Xl0 e (λ x. ((λ q. (h, refl)), ((λ q. sends-open h), tt))) tt h
+  each-state Xl1 e h = in1 e h
+  each-state Xl2 e h = in2 e h
+  each-state Xl3 e h = in3 e h
+  each-state Xl4 e h = by-rows Xl4 e (λ x. ((λ q. refl), tt)) tt tt
+  each-state Xl5 e h = in5 e h
+  each-state Xl6 e h = in6 e h
+  each-state Xl7 e h = in7 e h
+  each-state Xl8 e h = in8 e h
+  each-state Xl9 e h = by-rows Xl9 e (λ x. ((λ q. refl), tt)) tt tt
+  each-state Xl10 e h = by-rows Xl10 e (λ x. tt) ((λ q. refl), ((λ q. refl), tt)) tt
 
 -- what holds of a refusal, and of an event that is taken, holds of a call with its event and frame
 module _ (s : State) (P : Event → Held → Stepped → Type 0) (stays : (e : Event) (h : Held) (k : Refusal) → P e h (refused s k)) (goes : (e : Event) (f : OpenFrame) → P e (Frame f) (done (takes f e s))) where
@@ -273,7 +273,7 @@ abbrev Told : State → List Met → Type 0
 Told s ms = Knows (s .phase) (s .memory) ms
 
 told-call : (s : State) (ms : List Met) → Told s ms → (c : Call) → Told (callOf c s .state) (noted (s .phase) (saidIn c) (frameIn c) (callOf c s) ms)
-told-call s ms h = by-event s (λ e f r. Told (r .state) (noted (s .phase) e f r ms)) (λ e f k. h) (λ e f. told (s .memory) (s .count) f ms (s .phase) e h)
+told-call s ms h = by-event s (λ e f r. Told (r .state) (noted (s .phase) e f r ms)) (λ e f k. h) (λ e f. each-state (s .memory) (s .count) f ms (s .phase) e h)
 
 told-run : (cs : List Call) (s : State) (ms : List Met) → Told s ms → Told (run cs s) (met cs s ms)
 told-run [] s ms h = h

@@ -17,7 +17,9 @@ same-timer-requires : tie.Need-same-timer-requires
 same-timer-requires c κs = search needs
 
 returns-2 : tie.Need-returns-2
-returns-2 c = rw (eq-eqb _ _ (c .before .before .before .before .before .before .before .if1 .left), c .same-timer .ensures)
+returns-2 c =
+    let c4 = c .before .before .before .before in
+    rw (eq-eqb _ _ (c4 .before .before .before .if1 .left), c .same-timer .ensures)
 
 pub apart-step-spec : {M : Type 1} → statement M
 apart-step-spec = tie.close (tie.spec returns same-timer-requires returns-2)

@@ -24,7 +24,9 @@ closing-requires c κs = search needs
 
 returns-3 : tie.Need-returns-3
 unfolding chosen
-returns-3 c = rw (c .closing .ensures, ne-eqb _ _ (c .before .before .before .before .before .if1 .left), ne-eqb _ _ (c .before .before .before .if2 .left), eq-eqb _ _ (c .before .if3 .taken))
+returns-3 c =
+    let c4 = c .before .before .before .before in
+    rw (c .closing .ensures, ne-eqb _ _ (c4 .before .if1 .left), ne-eqb _ _ (c .before .before .before .if2 .left), eq-eqb _ _ (c .before .if3 .taken))
 
 later-requires : tie.Need-later-requires
 later-requires c κs = search needs
@@ -34,7 +36,9 @@ unnamed-requires c κs = search needs
 
 returns-4 : tie.Need-returns-4
 unfolding chosen
-returns-4 c = rw (c .unnamed .ensures, c .before .later .ensures, ne-eqb _ _ (c .before .before .before .before .before .before .if1 .left), ne-eqb _ _ (c .before .before .before .before .if2 .left), ne-eqb _ _ (c .before .before .if3 .left))
+returns-4 c =
+    let c4 = c .before .before .before .before in
+    rw (c .unnamed .ensures, c .before .later .ensures, ne-eqb _ _ (c4 .before .before .if1 .left), ne-eqb _ _ (c4 .if2 .left), ne-eqb _ _ (c .before .before .if3 .left))
 
 pub chosen-spec : {M : Type 1} → statement M
 chosen-spec =

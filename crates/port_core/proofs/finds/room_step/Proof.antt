@@ -13,7 +13,9 @@ stamp-if-requires : tie.Need-stamp-if-requires
 stamp-if-requires c κs = search needs
 
 returns : tie.Need-returns
-returns c = rw (c .stamp-if .ensures, c .before .before .before .before .before .byte-if .ensures, c .before .before .before .before .before .before .before .slot-at .ensures)
+returns c =
+    let c4 = c .before .before .before .before in
+    rw (c .stamp-if .ensures, c4 .before .byte-if .ensures, c4 .before .before .before .slot-at .ensures)
 
 pub room-step-spec : {M : Type 1} → statement M
 room-step-spec = tie.close (tie.spec slot-at-requires byte-if-requires stamp-if-requires returns)

@@ -22,7 +22,9 @@ timed-requires : tie.Need-timed-requires
 timed-requires c κs = search needs
 
 returns : tie.Need-returns
-returns c = rw (c .timed .ensures, c .before .waited .ensures, c .before .before .one-more .ensures, c .before .before .before .before .before .stamped .ensures, c .before .before .before .before .before .before .placed .ensures, ← c .before .before .before .before .is-blocked .ensures, c .before .before .before .if1 .taken)
+returns c =
+    let c4 = c .before .before .before .before in
+    rw (c .timed .ensures, c .before .waited .ensures, c .before .before .one-more .ensures, c4 .before .stamped .ensures, c4 .before .before .placed .ensures, ← c4 .is-blocked .ensures, c .before .before .before .if1 .taken)
 
 no-stamp-requires : tie.Need-no-stamp-requires
 no-stamp-requires c κs = search needs
@@ -34,7 +36,9 @@ timed-requires-2 : tie.Need-timed-requires-2
 timed-requires-2 c κs = search needs
 
 returns-2 : tie.Need-returns-2
-returns-2 c = rw (c .timed2 .ensures, c .before .waited2 .ensures, c .before .before .no-stamp .ensures, c .before .before .before .before .before .stamped .ensures, c .before .before .before .before .before .before .placed .ensures, ← c .before .before .before .before .is-blocked .ensures, c .before .before .before .if1 .left)
+returns-2 c =
+    let c4 = c .before .before .before .before in
+    rw (c .timed2 .ensures, c .before .waited2 .ensures, c .before .before .no-stamp .ensures, c4 .before .stamped .ensures, c4 .before .before .placed .ensures, ← c4 .is-blocked .ensures, c .before .before .before .if1 .left)
 
 pub again-spec : {M : Type 1} → statement M
 again-spec =

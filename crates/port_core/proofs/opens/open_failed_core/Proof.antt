@@ -27,8 +27,9 @@ given-requires c κs = search needs
 returns : tie.Need-returns
 unfolding openFailedCore
 returns c =
-    let a = c .before .before .before .before .before .before .args in
-    let is = c .before .before .before .before .before .phy-at .ensures in
+    let c4 = c .before .before .before .before in
+    let a = c4 .before .before .args in
+    let is = c4 .before .phy-at .ensures in
     settled (failedCauses (a .p) (a .kept) (a .x) (not (isOpening (phyAt (a .p) (a .x .phy))))) (a .p) (failed (a .p) (phyAt (a .p) (a .x .phy)) (a .r) (reasonOf (a .x .why)) (a .x .phy) (a .x .now)) {c = c .before .before .before .failed-checked .result} {e = c .before .failed .result} (c .given .ensures) (rw (← is) (c .before .before .before .failed-checked .ensures)) (rw (← is, ← c .before .before .reason-of .ensures) (c .before .failed .ensures))
 
 pub open-failed-core-spec : {M : Type 1} → statement M

@@ -23,8 +23,9 @@ given-requires c κs = search needs
 returns : tie.Need-returns
 unfolding openedCore
 returns c =
-    let a = c .before .before .before .before .before .args in
-    let is = c .before .before .before .before .phy-at .ensures in
+    let c4 = c .before .before .before .before in
+    let a = c4 .before .args in
+    let is = c4 .phy-at .ensures in
     settled (phyCauses (a .p) (a .kept) (a .x .phy) (a .x .now) (not (isOpening (phyAt (a .p) (a .x .phy))))) (a .p) (connected (a .p) (phyAt (a .p) (a .x .phy)) (a .r) (a .x)) {c = c .before .before .phy-checked .result} {e = c .before .connected .result} (c .given .ensures) (rw (← is) (c .before .before .phy-checked .ensures)) (rw (← is) (c .before .connected .ensures))
 
 pub opened-core-spec : {M : Type 1} → statement M

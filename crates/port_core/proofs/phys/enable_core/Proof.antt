@@ -34,10 +34,11 @@ given-requires c κs = search needs
 returns : tie.Need-returns
 unfolding enableCore
 returns c =
-    let checked = c .before .before .before .before .before in
+    let c4 = c .before .before .before .before in
+    let checked = c4 .before in
     let a = checked .before .before .before .args in
     let is = checked .before .before .phy-at .ensures in
-    settled (phyCauses (a .p) (a .kept) (a .x .phy) (a .x .now) (not (isDisabled (phyAt (a .p) (a .x .phy))))) (a .p) (ended (withPhy (a .p) (a .x .phy) unconnectedPhy (a .x .now)) (said Taken noSlot (a .x .phy) (a .r))) {c = checked .phy-checked .result} {e = c .before .ended .result} (c .given .ensures) (rw (← is) (checked .phy-checked .ensures)) (rw (c .before .ended .ensures, c .before .before .said .ensures, c .before .before .before .with-phy .ensures, c .before .before .before .before .unconnected-phy .ensures))
+    settled (phyCauses (a .p) (a .kept) (a .x .phy) (a .x .now) (not (isDisabled (phyAt (a .p) (a .x .phy))))) (a .p) (ended (withPhy (a .p) (a .x .phy) unconnectedPhy (a .x .now)) (said Taken noSlot (a .x .phy) (a .r))) {c = checked .phy-checked .result} {e = c .before .ended .result} (c .given .ensures) (rw (← is) (checked .phy-checked .ensures)) (rw (c .before .ended .ensures, c .before .before .said .ensures, c .before .before .before .with-phy .ensures, c4 .unconnected-phy .ensures))
 
 pub enable-core-spec : {M : Type 1} → statement M
 enable-core-spec =

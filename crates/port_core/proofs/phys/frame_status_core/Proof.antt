@@ -26,8 +26,9 @@ given-requires c κs = search needs
 returns : tie.Need-returns
 unfolding frameStatusCore
 returns c =
-    let a = c .before .before .before .before .before .args in
-    let is = c .before .before .before .before .phy-at .ensures in
+    let c4 = c .before .before .before .before in
+    let a = c4 .before .args in
+    let is = c4 .phy-at .ensures in
     settled (phyCauses (a .p) (a .kept) (a .x .phy) (a .x .now) (not (hasFrameOut (phyAt (a .p) (a .x .phy))))) (a .p) (framed (a .p) (phyAt (a .p) (a .x .phy)) (a .r) (a .x)) {c = c .before .before .phy-checked .result} {e = c .before .framed .result} (c .given .ensures) (rw (← is, ← c .before .before .before .has-frame-out .ensures) (c .before .before .phy-checked .ensures)) (rw (← is) (c .before .framed .ensures))
 
 pub frame-status-core-spec : {M : Type 1} → statement M

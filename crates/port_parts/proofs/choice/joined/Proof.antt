@@ -34,7 +34,9 @@ add-t18 : tie.Need-add-t18
 add-t18 c = search needs
 
 returns : tie.Need-returns
-returns c = rw (c .bit3 .ensures .0, c .before .before .bit2 .ensures .0, c .before .before .before .before .before .bit .ensures .0, c .before .before .before .before .before .before .before .reaches .ensures)
+returns c =
+    let c4 = c .before .before .before .before in
+    rw (c .bit3 .ensures .0, c .before .before .bit2 .ensures .0, c4 .before .bit .ensures .0, c4 .before .before .before .reaches .ensures)
 
 pub joined-spec : {M : Type 1} → statement M
 joined-spec =

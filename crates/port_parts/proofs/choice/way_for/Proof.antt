@@ -27,40 +27,48 @@ returns c =
 
 cast-t9 : tie.Need-cast-t9
 cast-t9 c =
-    let a = c .before .before .before .before .before .before .args in
+    let c4 = c .before .before .before .before in
+    let a = c4 .before .before .args in
     let eight : length (a .phys) ≡ 8 = search needs in
-    let is = c .before .before .before .before .before .free-sets in
+    let is = c4 .before .free-sets in
     let l = low-fits (a .phys) (a .r) eight (is .result) (is .ensures) in
     omega (arith, l .1 .0)
 
 returns-2 : tie.Need-returns-2
 returns-2 c =
-    let a = c .before .before .before .before .before .before .args in
+    let c4 = c .before .before .before .before in
+    let a = c4 .before .before .args in
     let eight : length (a .phys) ≡ 8 = search needs in
-    let is = c .before .before .before .before .before .free-sets in
+    let is = c4 .before .free-sets in
     by-open (a .phys) (a .r) eight (is .result) (is .ensures) (c .before .before .before .if1 .left) (c .before .if2 .taken)
 
 cast-t13 : tie.Need-cast-t13
 cast-t13 c =
-    let a = c .before .before .before .before .before .before .before .before .before .args in
+    let c4 = c .before .before .before .before in
+    let c8 = c4 .before .before .before .before in
+    let a = c8 .before .args in
     let eight : length (a .phys) ≡ 8 = search needs in
-    let is = c .before .before .before .before .before .before .before .before .free-sets in
+    let is = c8 .free-sets in
     let l = low-fits (a .phys) (a .r) eight (is .result) (is .ensures) in
     omega (arith, l .1 .1)
 
 returns-3 : tie.Need-returns-3
 returns-3 c =
-    let a = c .before .before .before .before .before .before .before .before .before .args in
+    let c4 = c .before .before .before .before in
+    let c8 = c4 .before .before .before .before in
+    let a = c8 .before .args in
     let eight : length (a .phys) ≡ 8 = search needs in
-    let is = c .before .before .before .before .before .before .before .before .free-sets in
-    by-close (a .phys) (a .r) eight (is .result) (is .ensures) (c .before .before .before .before .before .before .if1 .left) (c .before .before .before .before .if2 .left) (c .before .if3 .taken)
+    let is = c8 .free-sets in
+    by-close (a .phys) (a .r) eight (is .result) (is .ensures) (c4 .before .before .if1 .left) (c4 .if2 .left) (c .before .if3 .taken)
 
 returns-4 : tie.Need-returns-4
 returns-4 c =
-    let a = c .before .before .before .before .before .before .before .before .args in
+    let c4 = c .before .before .before .before in
+    let c8 = c4 .before .before .before .before in
+    let a = c8 .args in
     let eight : length (a .phys) ≡ 8 = search needs in
-    let is = c .before .before .before .before .before .before .before .free-sets in
-    by-none (a .phys) (a .r) eight (is .result) (is .ensures) (c .before .before .before .before .before .if1 .left) (c .before .before .before .if2 .left) (c .if3 .left)
+    let is = c4 .before .before .before .free-sets in
+    by-none (a .phys) (a .r) eight (is .result) (is .ensures) (c4 .before .if1 .left) (c .before .before .before .if2 .left) (c .if3 .left)
 
 pub way-for-spec : {M : Type 1} → statement M
 way-for-spec =
