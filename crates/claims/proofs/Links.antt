@@ -74,10 +74,13 @@ pub record Links : Type 0 where
   -- the frame that a SendOpen in XL0 brings, or a BackoffReversePath in XL3, is the one transmitted
   pub transmits : (cs : List Call) (f : OpenFrame) → headListed (f .head) ≡ true → after cs .phase ≡ Phase.Xl0 → transmitted (history (cs ++ (event (Event.Router Message.SendOpen) f ∷ []))) ≡ Held.Frame f
   pub transmits-back : (cs : List Call) (f : OpenFrame) → headListed (f .head) ≡ true → after cs .phase ≡ Phase.Xl3 → transmitted (history (cs ++ (event (Event.Router Message.BackoffReversePath) f ∷ []))) ≡ Held.Frame f
+  -- 01 XL.31
   -- while no AIP came since the OPEN was transmitted, an OPEN that is not of higher priority does nothing
   pub stands : (cs : List Call) (f g : OpenFrame) → Crossed cs f g → aipMet (history cs) ≡ Seen.Never → higherThan g f ≡ false → stepOf g (Event.Line Primitive.Open) (after cs) ≡ answers (after cs) []
+  -- 01 XL.32
   -- one of higher priority backs off
   pub overtakes : (cs : List Call) (f g : OpenFrame) → Crossed cs f g → higherThan g f ≡ true → Backs cs f g [] (after cs .memory .heard) (stepOf g (Event.Line Primitive.Open) (after cs))
+  -- 01 XL.32
   -- once an AIP came, every OPEN backs off
   pub yields : (cs : List Call) (f g : OpenFrame) (w : Wait) → Crossed cs f g → aipMet (history cs) ≡ Seen.Latest w → Backs cs f g [] (after cs .memory .heard) (stepOf g (Event.Line Primitive.Open) (after cs))
   -- an OPEN that came in XL5 is taken at Sent as XL6 takes one, behind ArbStatus(Waiting On Device), and forgotten: no AIP can have come
@@ -85,10 +88,11 @@ pub record Links : Type 0 where
   pub sends-back : (cs : List Call) (e f g : OpenFrame) → Remembered cs f g → higherThan g f ≡ true → Backs cs f g (Action.Send (Message.ArbStatus Wait.Device) ∷ []) Held.Nothing (stepOf e (Event.Own Notice.Sent) (after cs))
   -- with neither an OPEN nor BREAK since, Sent only tells the router
   pub sends-alone : (cs : List Call) (e : OpenFrame) → after cs .phase ≡ Phase.Xl5 → breakSent (history cs) ≡ false → openMet (history cs) ≡ Held.Nothing → stepOf e (Event.Own Notice.Sent) (after cs) ≡ answers (link Phase.Xl6 (known (after cs .memory .held) Held.Nothing (after cs .memory .aip) false (after cs .memory .close) (after cs .memory .blocked)) (after cs .count)) (Action.Send (Message.ArbStatus Wait.Device) ∷ [])
-  -- 01 XL.18 01 XL.19 01 XL.26
+  -- 01 XL.18 01 XL.19
   -- a BREAK that came in XL2 is answered by SendBreak at Forwarded, one that came in XL5 at Sent; and only such
   pub forwards-broken : (cs : List Call) (e : OpenFrame) → after cs .phase ≡ Phase.Xl2 → breakForwarded (history cs) ≡ true → stepOf e (Event.Own Notice.Forwarded) (after cs) ≡ answers (link Phase.Xl9 (after cs .memory) (after cs .count)) (Action.Break BreakAction.Send ∷ Action.Break BreakAction.Transmit ∷ [])
   pub forwards : (cs : List Call) (e : OpenFrame) → after cs .phase ≡ Phase.Xl2 → breakForwarded (history cs) ≡ false → stepOf e (Event.Own Notice.Forwarded) (after cs) ≡ answers (link Phase.Xl3 (after cs .memory) (after cs .count)) []
+  -- 01 XL.26
   pub sends-broken : (cs : List Call) (e : OpenFrame) → after cs .phase ≡ Phase.Xl5 → breakSent (history cs) ≡ true → stepOf e (Event.Own Notice.Sent) (after cs) ≡ answers (link Phase.Xl9 (known (after cs .memory .held) Held.Nothing (after cs .memory .aip) false (after cs .memory .close) (after cs .memory .blocked)) (after cs .count)) (Action.Send (Message.ArbStatus Wait.Device) ∷ Action.Break BreakAction.Send ∷ Action.Break BreakAction.Transmit ∷ [])
   -- 01 XL.16
   -- the path timer requests the path again exactly if the last Arbitrating since RequestPath was Blocked On Partial

@@ -78,10 +78,12 @@ pub record Widths (f : OpenFrame) : Type 0 where
 abbrev pub typed : List ℕ → Bool
 typed s = eqb (getD s 0 0 % 16) 1
 
+-- 01 REFUSAL.1 01 REFUSAL.2
 -- 01 OPEN.6: Any other length is refusal 1, any other type, protocol or rate 2.
 abbrev pub readCauses : List ℕ → List Cause
 readCauses s = bufferCauses (eqb (length s) 28) (typed s && headListed (headOf s))
 
+-- 01 REFUSAL.1 01 REFUSAL.2
 abbrev pub writeCauses : OpenFrame → List ℕ → List Cause
 writeCauses f out = bufferCauses (eqb (length out) 28) (headListed (f .head))
 

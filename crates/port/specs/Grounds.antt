@@ -9,7 +9,7 @@ use Rattle.refusals.specs.Causes.{Ground, _if_}
 use Rattle.refusals.specs.declared.Refusal.{Refusal}
 use Rattle.open_frame.specs.Open.{headListed}
 use Rattle.open_frame.specs.declared.Head.{Head}
-use Rattle.port_parts.specs.Parts.{yes, blank}
+use Rattle.port_parts.specs.Parts.{yes, protocols, blank}
 use Rattle.port_parts.specs.PhyStage as phy-stage
 use Rattle.port_parts.specs.Reasons.{reasons}
 use Rattle.port_parts.specs.declared.Phy.{Phy}
@@ -61,6 +61,8 @@ abbrev pub Joined : Phy → Type 0
 Joined f =
     ((f .stage ≡ phy-stage.idle) ⊎ (f .stage ≡ phy-stage.sending)) ⊎ ((f .stage ≡ phy-stage.closing) ⊎ (f .stage ≡ phy-stage.closingSending))
 
+-- 01 REFUSAL.3 01 REFUSAL.4 01 REFUSAL.5 01 REFUSAL.6
+-- of a call about phy k, which is refused as unfit if `unfit` holds
 abbrev pub phyGrounds : State → ℕ → ℕ → Type 0 → List Ground
 phyGrounds s k now unfit =
     (Refusal.Rules if Broken s) ∷ (Refusal.Phy if (k < s .port .count → ⊥)) ∷ (Refusal.Past if (now < s .port .last)) ∷ (Refusal.Unfit if unfit) ∷ []
@@ -68,7 +70,7 @@ phyGrounds s k now unfit =
 abbrev pub cancelGrounds : State → Withdrawn → Type 0 → List Ground
 cancelGrounds s x unfit =
     (Refusal.Length if Wrong s)
-    ∷ (Refusal.Unlisted if (x .key .protocol < 3 → ⊥))
+    ∷ (Refusal.Unlisted if (x .key .protocol < protocols → ⊥))
     ∷ (Refusal.Rules if Broken s)
     ∷ (Refusal.Past if (x .now < s .port .last))
     ∷ (Refusal.Unfit if unfit)

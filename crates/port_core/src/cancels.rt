@@ -9,6 +9,7 @@ use crate::ports;
 use crate::records;
 use port_parts::NO_PHY;
 use port_parts::NO_SLOT;
+use port_parts::PROTOCOLS;
 use port_parts::Port;
 use port_parts::Request;
 use port_parts::YES;
@@ -23,7 +24,7 @@ use refusals::Refusal;
 fn cancel_checked(p: Port, r: Request, kept: bool, s: u8, x: Withdrawn) -> Checked
     ensures { λ c. ⌜ c ≡ refuse Checked.Refused (cancelCauses p r kept s x) Checked.Passed ⌝ }
 {
-    if !(x.key.protocol < 3) {
+    if !(x.key.protocol < PROTOCOLS) {
         return Checked::Refused(Refusal::Unlisted);
     }
     if !kept {

@@ -24,9 +24,12 @@ abbrev pub noPhy : ℕ
 noPhy = 8
 
 -- 01 OPEN.2
--- the number of a protocol
+-- protocols by their numbers, of which there are three: SMP 0, SSP 1 and STP 2
 abbrev pub ssp : ℕ
 ssp = 1
+
+abbrev pub protocols : ℕ
+protocols = 3
 
 -- no time yet
 abbrev pub noStamp : Stamp

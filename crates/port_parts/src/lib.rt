@@ -33,8 +33,10 @@ pub const NO_SLOT: u8 = 32;
 
 pub const NO_PHY: u8 = 8;
 
-// The number of a protocol.
+// Protocols by their numbers, of which there are three: SMP 0, SSP 1 and STP 2.
 pub const SSP: u8 = 1;
+
+pub const PROTOCOLS: u8 = 3;
 
 // A mark of a lent record: it can hold any number.
 pub const NO: u8 = 0;

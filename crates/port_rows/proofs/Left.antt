@@ -1,5 +1,7 @@
 -- What a taken call leaves of its phy, of the time and of the record, and what it says, in numbers: each is computed from the call's
 -- definition. Assumes nothing.
+-- Numbers are typed here, where the definitions have names. A phy: 0 disabled, 1 unconnected, 2 opening, 3 idle, 4 sending, 5 closing, 6 closing
+-- with a frame out; a request: 0 free, 1 waiting, 2 in progress; a step: 1 sends, 2 opens, 3 closes; slot 32 and phy 8 are none.
 use Prim.Native.Nat.{ℕ, _-_}
 use mathlib.Core.Bool.{Bool, true, false, not, cond}
 use mathlib.Core.Path.{_≡_, refl, ap}
@@ -125,6 +127,7 @@ module _ (p : Port) (r : Request) (x : Confirmed) (own : ltb (x .phy) (p .count)
   unfolding closedCore
   frees joined = rw (own, due, joined)
 
+  -- 01 PORT.21: its request ends as connection lost
   loses : isJoined phy ≡ true → names phy ≡ true → isCancelled r ≡ false → closedCore p r true x .answer .word ≡ ConnectionLost
   unfolding closedCore
   loses joined named wanted = rw (own, due, joined, named, wanted)

@@ -80,11 +80,12 @@ lossBy r t = record { change = isSsp (r .head) && not (eqb (r .loss .set) (t .se
 
 -- ---- what a call leaves
 
--- what is stored: the record `entry`, at the slot that the answer names, and a loss timer in every record of its destination
+-- what is stored: the record `entry`, at the slot that the answer names, none at no slot; and a loss timer in every record of its destination
 abbrev pub stored : Port → Answer → Request → Loss → Done
 stored p a entry loss = record { port = p; answer = a; entry = entry; loss = loss; cleared = false }
 
--- the request that the answer names leaves: its record is set free
+-- 01 PORT.26
+-- the request that the answer names leaves: its record is set free, and its loss timer with it
 abbrev pub ended : Port → Answer → Done
 ended p a = stored p a blank noLoss
 

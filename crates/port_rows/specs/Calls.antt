@@ -1,5 +1,8 @@
--- Document 01, 'Port': each call, on the record that it is about and on numbers. `kept` is whether the lent state keeps its
--- rules. Assumes nothing.
+-- Document 01, 'Port': each call, on the record that it is about and on numbers. Assumes nothing.
+-- In every definition p is the port, r the record of the request that the call is about, s its slot, f its phy and k that phy's number, x what
+-- the call was given, `now` its time, and `kept` whether the lent state keeps its rules. What is said and stored, and phys that are
+-- made, stand in Answers.antt; a record with some fields changed in Changed.antt; what submit (v) and cancel find in Finds.antt; stages, marks and tests in
+-- port_parts; the fields of each type, with what they mean, in src/lib.rt of port_parts and of this crate.
 use Prim.Native.Nat.{ℕ, _+_, _-_, min}
 use mathlib.Core.Bool.{Bool, true, false, not, cond, _&&_, _||_}
 use mathlib.Core.List.{List, [], _∷_}
@@ -12,7 +15,7 @@ use Rattle.open_frame.specs.Open.{headListed}
 use Rattle.open_frame.specs.Wait.{waitValue}
 use Rattle.open_frame.specs.declared.Awt.{Awt}
 use Rattle.open_frame.specs.declared.Pbc.{Pbc}
-use Rattle.port_parts.specs.Parts.{no, yes, noSlot, noPhy, noStamp, stamped, isSet, disabledPhy, absentPhy, isDisabled, isOpening, isIdle, isSending, isClosingIdle, isClosingSending, blank, isWaiting, isSsp, inRange, names, hasFrameOut}
+use Rattle.port_parts.specs.Parts.{no, yes, protocols, noSlot, noPhy, noStamp, stamped, isSet, disabledPhy, absentPhy, isDisabled, isOpening, isIdle, isSending, isClosingIdle, isClosingSending, blank, isWaiting, isSsp, inRange, names, hasFrameOut}
 use Rattle.port_parts.specs.PhyStage as phy-stage
 use Rattle.port_parts.specs.RequestStage as request-stage
 use Rattle.port_parts.specs.Step as step
@@ -37,6 +40,7 @@ use Rattle.port_rows.specs.declared.Failure.{Failure}
 use Rattle.port_rows.specs.declared.Report.{Report}
 use Rattle.port_rows.specs.declared.Done.{Done}
 
+-- a Cancel of it was taken while it was in progress
 abbrev pub isCancelled : Request → Bool
 isCancelled r = eqb (r .cancelled) yes
 
@@ -44,7 +48,7 @@ isCancelled r = eqb (r .cancelled) yes
 abbrev pub phyAt : Port → ℕ → Phy
 phyAt p k = getD (p .phys) k absentPhy
 
--- what a checked call leaves
+-- what a call leaves whose checks came to c: a refusal, or d
 abbrev pub given : Checked → Port → Done → Done
 given c p d = byCheck (refusedBy p) d c
 
@@ -94,13 +98,13 @@ submitCore p kept v x =
 -- 01 REFUSAL.2 01 REFUSAL.3 01 REFUSAL.5 01 REFUSAL.6 01 REFUSAL.14
 abbrev pub cancelCauses : Port → Request → Bool → ℕ → Withdrawn → List Cause
 cancelCauses p r kept s x =
-    (Refusal.Unlisted when not (ltb (x .key .protocol) 3))
+    (Refusal.Unlisted when not (ltb (x .key .protocol) protocols))
     ∷ (Refusal.Rules when not kept)
     ∷ (Refusal.Past when ltb (x .now) (p .last))
     ∷ (Refusal.Unfit when (leb noSlot s || isCancelled r))
     ∷ []
 
--- a connected phy whose request is cancelled closes, with its frame out
+-- a sending phy whose request is cancelled closes, with its frame out; an opening one goes on opening until it is told of the end
 abbrev pub closingPhy : Phy → Phy
 closingPhy f = stagedPhy (cond (isSending f) phy-stage.closingSending (f .stage)) (f .slot) f
 
@@ -159,6 +163,7 @@ waitSince r now = waitValue (now - firstOpen r now .at)
 abbrev pub asking : ℕ → ℕ → Request → Answer
 asking s k r = record { word = Open; slot = s; phy = k; frame = record { head = r .head; pbc = r .pbc; awt = r .awt } }
 
+-- a request whose open begins on phy k: in progress there, with the wait that its Open carries
 abbrev pub asked : Request → ℕ → ℕ → Request
 asked r k now = waited (placed r request-stage.inProgress k) (r .pbc) (waitSince r now) (r .retry) (firstOpen r now)
 
@@ -196,7 +201,7 @@ phyCauses p kept k now unfit =
     (Refusal.Rules when not kept) ∷ (Refusal.Phy when not (ltb k (p .count))) ∷ (Refusal.Past when ltb now (p .last)) ∷ (Refusal.Unfit when unfit) ∷ []
 
 -- 01 PORT.17: Opened: the frame goes.
--- 01 PORT.24
+-- 01 PORT.24: stopped by Opened
 abbrev pub connected : Port → Phy → Request → Confirmed → Done
 connected p f r x =
     stored (withPhy p (x .phy) (joinedPhy (openedStage r) (f .slot) (r .head)) (x .now))
@@ -232,6 +237,8 @@ isNexusLost p r why now = isSsp (r .head) && isLost (timerAfter r why now) (p .l
 abbrev pub failedWord : Port → Request → Reason → ℕ → Word
 failedWord p r why now = unlessCancelled r (cond (not (isRetried why)) (Ended why) (cond (isNexusLost p r why now) NexusLoss Retried))
 
+-- 01 PORT.18 01 PORT.23
+-- the request waits again, and is not set free
 abbrev pub isAgain : Port → Request → Reason → ℕ → Bool
 isAgain p r why now = not (isCancelled r) && (isRetried why && not (isNexusLost p r why now))
 
@@ -251,6 +258,7 @@ openFailedCore p r kept x =
     refuse (refusedBy p) (failedCauses p kept x (not (isOpening (phyAt p (x .phy)))))
     (failed p (phyAt p (x .phy)) r (reasonOf (x .why)) (x .phy) (x .now))
 
+-- 01 PORT.23
 -- 01 PORT.20: Frame status (a byte, handed on): request ends, phy idle; a closing one stays closing.
 abbrev pub framed : Port → Phy → Request → Report → Done
 framed p f r x =
@@ -262,10 +270,13 @@ unfoldable pub frameStatusCore : Port → Request → Bool → Report → Done
 frameStatusCore p r kept x =
     refuse (refusedBy p) (phyCauses p kept (x .phy) (x .now) (not (hasFrameOut (phyAt p (x .phy))))) (framed p (phyAt p (x .phy)) r x)
 
+-- connected or closing
 abbrev pub isJoined : Phy → Bool
 isJoined f = (isIdle f || isSending f) || (isClosingIdle f || isClosingSending f)
 
+-- 01 PORT.23
 -- 01 PORT.21: Closed: phy free, its request ends as connection lost.
+-- where the phy names no request it has no slot, and at no slot nothing is stored
 abbrev pub closedDone : Port → Phy → Request → Confirmed → Done
 closedDone p f r x =
     ended (withPhy p (x .phy) unconnectedPhy (x .now)) (said (cond (names f) (unlessCancelled r ConnectionLost) Taken) (f .slot) (x .phy) r)
@@ -276,12 +287,15 @@ closedCore p r kept x =
     refuse (refusedBy p) (phyCauses p kept (x .phy) (x .now) (not (isJoined (phyAt p (x .phy))))) (closedDone p (phyAt p (x .phy)) r x)
 
 -- 01 REFUSAL.14
+-- it names no request, and at no slot nothing is stored
 unfoldable pub enableCore : Port → Request → Bool → Confirmed → Done
 enableCore p r kept x =
     refuse (refusedBy p) (phyCauses p kept (x .phy) (x .now) (not (isDisabled (phyAt p (x .phy)))))
     (ended (withPhy p (x .phy) unconnectedPhy (x .now)) (said Taken noSlot (x .phy) r))
 
 -- 01 PORT.22: A disabled phy's request waits again, wait and PBC kept.
+-- 01 PORT.23
+-- where the phy names no request it has no slot, and at no slot nothing is stored
 abbrev pub disabledDone : Port → Phy → Request → Confirmed → Done
 disabledDone p f r x =
     stored (withPhy p (x .phy) disabledPhy (x .now)) (said (cond (names f) (unlessCancelled r Waiting) Taken) (f .slot) (x .phy) r)

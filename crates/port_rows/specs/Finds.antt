@@ -14,6 +14,8 @@ use Rattle.port_rows.specs.declared.Key.{Key}
 abbrev pub noRoom : Room
 noRoom = record { free = noSlot; same = false; loss = noStamp }
 
+-- 01 PORT.11 01 PORT.26
+-- one record more: the lowest free slot, whether the key is there, and the timer of a request to the same destination
 abbrev pub roomStep : Room → Request → ℕ → Head → Room
 roomStep a r i h =
     record {

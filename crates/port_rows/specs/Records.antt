@@ -9,7 +9,8 @@ use Rattle.port_rows.specs.declared.Loss.{Loss}
 use Rattle.port_rows.specs.declared.Done.{Done}
 
 -- 01 PORT.26: The destination's last SSP request to leave stops it too.
--- every SSP request to the destination of a timer that changes gets it; a timer lies in the records of present requests alone, so it is gone with the last of them
+-- every SSP request to the destination of a timer that changes gets it. A timer lies in the records of present requests alone: the last one to leave takes it along, as its
+-- record is set free (`ended`), and who comes next finds none (`roomStep`)
 abbrev pub spread : Loss → Request → Request
 spread x r = cond (x .change && (not (isFree r) && (isSsp (r .head) && eqb (r .head .destination) (x .destination)))) (timed r (x .timer)) r
 

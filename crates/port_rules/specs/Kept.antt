@@ -7,7 +7,7 @@ use mathlib.Core.List.{List}
 use lib.ListN.{getD}
 use Rattle.open_frame.specs.Open.{headListed}
 use Rattle.open_frame.specs.declared.Head.{Head}
-use Rattle.port_parts.specs.Parts.{yes, ssp, noSlot, absentPhy, blank}
+use Rattle.port_parts.specs.Parts.{yes, ssp, protocols, noSlot, absentPhy, blank}
 use Rattle.port_parts.specs.PhyStage as phy-stage
 use Rattle.port_parts.specs.RequestStage as request-stage
 use Rattle.port_parts.specs.declared.Phy.{Phy}
@@ -32,7 +32,7 @@ MustName p = (p .stage ≡ phy-stage.opening) ⊎ FrameOut p
 -- 01 PORT.7
 pub record PhyKept (count : ℕ) (p : Phy) (k : ℕ) : Type 0 where
   pub stage : p .stage ≤ phy-stage.closingSending
-  pub protocol : p .protocol < 3
+  pub protocol : p .protocol < protocols
   pub slot : p .slot ≤ noSlot
   pub must : MustName p → p .slot < noSlot
   pub may : p .slot < noSlot → MustName p ⊎ (p .stage ≡ phy-stage.closing)

@@ -6,7 +6,7 @@ use lib.Dec.{eqb, leb, ltb}
 use lib.ListN.{getD}
 use Rattle.laws.specs.Folds.{foldTo, foldFrom, allBelow}
 use Rattle.open_frame.specs.Open.{headListed}
-use Rattle.port_parts.specs.Parts.{yes, noSlot, absentPhy, blank, inRange, isSet, isDisabled, isOpening, isClosingIdle, hasFrameOut, names, isFree, isInProgress, isSsp, sameKey, sameNexus}
+use Rattle.port_parts.specs.Parts.{yes, protocols, noSlot, absentPhy, blank, inRange, isSet, isDisabled, isOpening, isClosingIdle, hasFrameOut, names, isFree, isInProgress, isSsp, sameKey, sameNexus}
 use Rattle.port_parts.specs.PhyStage as phy-stage
 use Rattle.port_parts.specs.RequestStage as request-stage
 use Rattle.port_parts.specs.declared.Phy.{Phy}
@@ -24,7 +24,7 @@ namesRight p = leb (p .slot) noSlot && ((not (mustName p) || names p) && (not (n
 
 -- phy k of a port that has `count` of them
 abbrev pub phyRule : ℕ → Phy → ℕ → Bool
-phyRule count p k = leb (p .stage) phy-stage.closingSending && (ltb (p .protocol) 3 && (namesRight p && (ltb k count || isDisabled p)))
+phyRule count p k = leb (p .stage) phy-stage.closingSending && (ltb (p .protocol) protocols && (namesRight p && (ltb k count || isDisabled p)))
 
 unfoldable pub portRule : Port → Bool
 portRule p = inRange (p .count) (p .loss) && allBelow (λ k. phyRule (p .count) (getD (p .phys) k absentPhy) k) 8

@@ -4,6 +4,7 @@ ghost use Rattle.port_rules.specs.Rules.{phyRule, portRule, pairedAt, pa
 ghost use Rattle.port_rules.specs.Rules as rules;
 use open_frame::Head;
 use port_parts::NO_SLOT;
+use port_parts::PROTOCOLS;
 use port_parts::Phy;
 use port_parts::Port;
 use port_parts::Request;
@@ -33,7 +34,7 @@ fn phy_rule(count: u8, p: Phy, k: usize) -> bool
     ensures { λ a. ⌜ a ≡ phyRule count p k ⌝ }
 {
     (p.stage <= phy_stage::CLOSING_SENDING)
-        & ((p.protocol < 3)
+        & ((p.protocol < PROTOCOLS)
             & (names_right(p) & ((k < count as usize) | (p.stage == phy_stage::DISABLED))))
 }
 

@@ -108,6 +108,7 @@ Writable Cancel = Unit {0}
 Writable Bad = ⊥
 
 -- what it does to a transfer
+-- 01 REFUSAL.2: line isn't one listed here
 -- 01 TEXT.5: other lines and those over 255 bytes, LF not counted, are 2.
 unfoldable pub obeyed : Command → Transfer → Stepped
 obeyed (Start b n m r) s = stepOf limit (start b n m r) s

@@ -28,7 +28,7 @@ headOf s destination source tag = record { destination = destination; source = s
 abbrev pub fitting : Transfer → List ℕ → List ℕ → Bool
 fitting s body out = eqb (length body) (frameLength s) && leb (frameEnd (length body)) (length out)
 
--- 01 REFUSAL.11
+-- 01 REFUSAL.1 01 REFUSAL.2 01 REFUSAL.11
 abbrev pub nextCauses : ℕ → Transfer → DataHead → List ℕ → List ℕ → List Cause
 nextCauses bound s h body out = frameCauses bound s ++ ((Refusal.Unlisted when not (dataListed h)) ∷ (Refusal.Length when not (fitting s body out)) ∷ [])
 

@@ -22,7 +22,8 @@ fillOf n = (4 - n % 4) % 4
 abbrev pub frameEnd : ℕ → ℕ
 frameEnd n = 24 + n + fillOf n
 
--- type 1, and a transfer tag of all ones
+-- 01 DATA.1: transfer tag 18-19 all ones
+-- and type 1
 abbrev pub dataHeader : DataHead → ℕ → Header
 dataHeader h fill = record {
   kind = 1;
@@ -65,6 +66,7 @@ pub record Typed (h : DataHead) : Type 0 where
   pub tag : h .tag < 256 ^ 2
   pub offset : h .offset < 256 ^ 4
 
+-- 01 REFUSAL.1 01 REFUSAL.2
 abbrev pub writeCauses : DataHead → List ℕ → List ℕ → List Cause
 writeCauses h body out = bufferCauses (dataSized (length body) (length out)) (dataListed h)
 
@@ -78,6 +80,7 @@ kindListed h = eqb (h .kind) 1 && (ltb (h .bits) 2 && eqb (h .transfer) 65535)
 abbrev pub filled : List ℕ → Bool
 filled s = eqb (beAt s (length s - getD s 11 0) (getD s 11 0)) 0
 
+-- 01 REFUSAL.1 01 REFUSAL.2
 -- 01 DATA.4: any header byte off this layout or fill not zero is 2
 abbrev pub readCauses : List ℕ → List Cause
 readCauses s = bufferCauses (frameSized (length s)) ((isBlank s && kindListed (headerOf s)) && filled s)

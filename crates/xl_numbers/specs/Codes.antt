@@ -116,6 +116,9 @@ fromManager kind detail = getD (managerEvents detail) kind EventRead.Unnamed
 abbrev pub own : ℕ → ℕ → EventRead
 own kind detail = getD (ownEvents detail) kind EventRead.Unnamed
 
+-- 01 REFUSAL.2
+-- an event is an enum, so that a link meets none but those listed; of two numbers that name none this says so, and whoever is given
+-- numbers refuses them. What a state doesn't list is another thing: it is counted (XL.2)
 unfoldable pub eventOf : Code → EventRead
 eventOf c =
     cond (ltb (c .kind) 16)

@@ -173,6 +173,7 @@ pub record Sentences (takes : OpenFrame → Event → State → Effect) (f : Ope
   pub sent-in-4 : takes f (Own Notice.Sent) (link Xl4 m n) ≡ gives (link Xl0 (known Nothing Nothing Never false false false) n) []
   -- 01 XL.26: XL5: OPEN (the latest) and BREAK are remembered.
   pub open-in-5 : takes f (Line Primitive.Open) (link Xl5 m n) ≡ gives (link Xl5 (known (m .held) (Frame f) (m .aip) (m .broke) (m .close) (m .blocked)) n) []
+  -- 01 XL.26: BREAK are remembered
   pub break-in-5 : takes f (Break BreakEvent.Received) (link Xl5 m n) ≡ gives (link Xl5 (known (m .held) (m .heard) (m .aip) true (m .close) (m .blocked)) n) []
   -- 01 XL.27: Sent: ArbStatus(Waiting On Device), XL6, then a remembered BREAK, or else OPEN, is taken as in XL6 and both are forgotten.
   pub sent-in-5 : m .broke ≡ false → m .heard ≡ Nothing → takes f (Own Notice.Sent) (link Xl5 m n) ≡ gives (link Xl6 (known (m .held) Nothing (m .aip) false (m .close) (m .blocked)) n) (Send (Message.ArbStatus Wait.Device) ∷ [])
