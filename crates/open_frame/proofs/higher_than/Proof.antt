@@ -9,7 +9,8 @@ use Rattle.open_frame.proofs.higher_than.Tie as tie
 
 returns : tie.Need-returns
 returns c =
-    let a = c .before .before .before .before .before .before .args in
+    let c4 = c .before .before .before .before in
+    let a = c4 .before .before .args in
     ap (λ (t : Bool). ltb (a .g .awt .0) (a .f .awt .0) || (eqb (a .f .awt .0) (a .g .awt .0) && t)) (or-alone (ltb (a .g .head .source) (a .f .head .source)) (and-false (eqb (a .f .head .source) (a .g .head .source)) refl))
 
 pub higher-than-spec : {M : Type 1} → statement M

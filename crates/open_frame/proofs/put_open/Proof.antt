@@ -14,10 +14,14 @@ abbrev at8 : tie.After-put-be9 → tie.After-put-be8
 at8 c = c .before .before .before .before
 
 abbrev at7 : tie.After-put-be8 → tie.After-put-be7
-at7 c = c .before .before .before .before .before
+at7 c =
+    let c4 = c .before .before .before .before in
+    c4 .before
 
 abbrev at6 : tie.After-put-be7 → tie.After-put-be6
-at6 c = c .before .before .before .before .before
+at6 c =
+    let c4 = c .before .before .before .before in
+    c4 .before
 
 abbrev at5 : tie.After-put-be6 → tie.After-put-be5
 at5 c = c .before .before .before .before
@@ -29,10 +33,14 @@ abbrev at3 : tie.After-put-be4 → tie.After-put-be3
 at3 c = c .before .before .before .before
 
 abbrev at2 : tie.After-put-be3 → tie.After-put-be2
-at2 c = c .before .before .before .before .before
+at2 c =
+    let c4 = c .before .before .before .before in
+    c4 .before
 
 abbrev at1 : tie.After-put-be2 → tie.After-put-be
-at1 c = c .before .before .before .before .before
+at1 c =
+    let c4 = c .before .before .before .before in
+    c4 .before
 
 abbrev at-start : tie.After-put-be → tie.Start
 at-start c = c .before .before .before .before

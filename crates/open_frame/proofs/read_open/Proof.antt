@@ -44,6 +44,7 @@ cast-t16 c = search needs
 -- what the second test tests
 tested : (c : tie.After-head-listed) → let s = now (c .before .before .before .before .before .before .args .s) in eqb (c .before .low .result) 1 && c .head-listed .result ≡ typed s && headListed (headOf s)
 tested c =
+    let c4 = c .before .before .before .before in
     let at-head = c .before .before .before in
     λ i. eqb (c .before .low .ensures i) 1 && (c .head-listed .ensures ∙ ap headListed (at-head .head-of .ensures)) i
 

@@ -38,7 +38,9 @@ slice-reshare-prefix-block : tie.Need-slice-reshare-prefix-block Inv-loop μ-loo
 slice-reshare-prefix-block c = omega arith
 
 slice-aggregate-block : tie.Need-slice-aggregate-block Inv-loop μ-loop
-slice-aggregate-block c = c .before .before .before .before .before .get .ensures .1
+slice-aggregate-block c =
+    let c4 = c .before .before .before .before in
+    c4 .before .get .ensures .1
 
 block-requires : tie.Need-block-requires Inv-loop μ-loop
 block-requires c κs = omega arith
@@ -74,7 +76,9 @@ put-requires : tie.Need-put-requires Inv-loop μ-loop
 put-requires c κs = tt
 
 same-length-5 : tie.Need-same-length-5 Inv-loop μ-loop
-same-length-5 c = ⊎-elim (λ w. ap length (w .1) ∙ c .before .before .before .before .before .before .before .loop .inv .0) (λ w. ap length (w .7) ∙ w .2 .kept .0 ∙ c .before .before .before .before .before .before .before .loop .inv .0) (c .before .before .before .before .before .before .loop-test .came)
+same-length-5 c =
+    let c4 = c .before .before .before .before in
+    ⊎-elim (λ w. ap length (w .1) ∙ c4 .before .before .before .loop .inv .0) (λ w. ap length (w .7) ∙ w .2 .kept .0 ∙ c4 .before .before .before .loop .inv .0) (c4 .before .before .loop-test .came)
 
 same-length-6 : tie.Need-same-length-6 Inv-loop μ-loop
 same-length-6 c = omega arith

@@ -43,19 +43,34 @@ put-requires : tie.Need-put-requires Inv-loop μ-loop
 put-requires c κs = tt
 
 same-length : tie.Need-same-length Inv-loop μ-loop
-same-length c = omega (arith, c .before .before .before .before .before .before .feed .kept, c .before .before .before .before .before .before .before .before .before .before .loop .inv .1)
+same-length c =
+    let c4 = c .before .before .before .before in
+    let c8 = c4 .before .before .before .before in
+    omega (arith, c4 .before .before .feed .kept, c8 .before .before .loop .inv .1)
 
 returns : tie.Need-returns Inv-loop μ-loop
 returns c = λ e. absurd (never e)
 
 add-from : tie.Need-add-from Inv-loop μ-loop
-add-from c = omega (arith, turn-within (c .before .before .before .before .before .before .before .before .before .before .before .loop .now) (c .before .before .before .before .before .before .before .before .before .before .before .before .before .before .args .input .now) (c .before .before .before .before .before .before .before .before .before .before .before .loop .out) (c .before .before .before .before .before .before .before .before .before .before .before .loop .from) (c .before .before .before .before .before .before .before .feed .result) _ (c .before .before .before .before .before .before .before .before .before .before .before .loop .inv .0) (c .before .before .before .before .before .before .before .feed .ensures), c .before .before .before .before .before .before .before .before .before .before .before .before .before .before .good)
+add-from c =
+    let c4 = c .before .before .before .before in
+    let c8 = c4 .before .before .before .before in
+    let c12 = c8 .before .before .before .before in
+    omega (arith, turn-within (c8 .before .before .before .loop .now) (c12 .before .before .args .input .now) (c8 .before .before .before .loop .out) (c8 .before .before .before .loop .from) (c4 .before .before .before .feed .result) _ (c8 .before .before .before .loop .inv .0) (c4 .before .before .before .feed .ensures), c12 .before .before .good)
 
 loop-less : tie.Need-loop-less Inv-loop μ-loop
-loop-less c = omega (arith, turn-within (c .before .before .before .before .before .before .before .before .before .before .before .loop .now) (c .before .before .before .before .before .before .before .before .before .before .before .before .before .before .args .input .now) (c .before .before .before .before .before .before .before .before .before .before .before .loop .out) (c .before .before .before .before .before .before .before .before .before .before .before .loop .from) (c .before .before .before .before .before .before .before .feed .result) _ (c .before .before .before .before .before .before .before .before .before .before .before .loop .inv .0) (c .before .before .before .before .before .before .before .feed .ensures), turn-moves (c .before .before .before .before .before .before .before .before .before .before .before .loop .now) (c .before .before .before .before .before .before .before .before .before .before .before .before .before .before .args .input .now) (c .before .before .before .before .before .before .before .before .before .before .before .loop .out) (c .before .before .before .before .before .before .before .before .before .before .before .loop .from) (c .before .before .before .before .before .before .before .feed .result) _ (c .before .before .before .before .before .before .before .before .before .before .before .loop .inv .0) (c .before .before .before .before .before .before .before .feed .ensures) (omega (arith, c .before .before .before .before .before .before .before .before .before .before .before .loop .inv .1, c .before .before .before .before .before .before .before .before .before .before .before .loop .inv .2)) (c .before .before .before .before .before .before .before .before .before .before .loop-test .taken))
+loop-less c =
+    let c4 = c .before .before .before .before in
+    let c8 = c4 .before .before .before .before in
+    let c12 = c8 .before .before .before .before in
+    omega (arith, turn-within (c8 .before .before .before .loop .now) (c12 .before .before .args .input .now) (c8 .before .before .before .loop .out) (c8 .before .before .before .loop .from) (c4 .before .before .before .feed .result) _ (c8 .before .before .before .loop .inv .0) (c4 .before .before .before .feed .ensures), turn-moves (c8 .before .before .before .loop .now) (c12 .before .before .args .input .now) (c8 .before .before .before .loop .out) (c8 .before .before .before .loop .from) (c4 .before .before .before .feed .result) _ (c8 .before .before .before .loop .inv .0) (c4 .before .before .before .feed .ensures) (omega (arith, c8 .before .before .before .loop .inv .1, c8 .before .before .before .loop .inv .2)) (c8 .before .before .loop-test .taken))
 
 loop-again : tie.Need-loop-again Inv-loop μ-loop
-loop-again c = (turn-within (c .before .before .before .before .before .before .before .before .before .before .before .loop .now) (c .before .before .before .before .before .before .before .before .before .before .before .before .before .before .args .input .now) (c .before .before .before .before .before .before .before .before .before .before .before .loop .out) (c .before .before .before .before .before .before .before .before .before .before .before .loop .from) (c .before .before .before .before .before .before .before .feed .result) _ (c .before .before .before .before .before .before .before .before .before .before .before .loop .inv .0) (c .before .before .before .before .before .before .before .feed .ensures), omega (arith, c .before .before .before .before .before .before .before .feed .kept, c .before .before .before .before .before .before .before .before .before .before .before .loop .inv .1), c .before .before .before .before .before .before .before .before .before .before .before .loop .inv .2, c .before .before .before .before .before .before .before .before .before .before .before .loop .inv .3 ∙ turn-carries (c .before .before .before .before .before .before .before .before .before .before .before .loop .now) (c .before .before .before .before .before .before .before .before .before .before .before .before .before .before .args .input .now) (c .before .before .before .before .before .before .before .before .before .before .before .loop .out) (c .before .before .before .before .before .before .before .before .before .before .before .loop .from) (c .before .before .before .before .before .before .before .feed .result) _ (c .before .before .before .before .before .before .before .before .before .before .before .loop .inv .0) (c .before .before .before .before .before .before .before .feed .ensures))
+loop-again c =
+    let c4 = c .before .before .before .before in
+    let c8 = c4 .before .before .before .before in
+    let c12 = c8 .before .before .before .before in
+    (turn-within (c8 .before .before .before .loop .now) (c12 .before .before .args .input .now) (c8 .before .before .before .loop .out) (c8 .before .before .before .loop .from) (c4 .before .before .before .feed .result) _ (c8 .before .before .before .loop .inv .0) (c4 .before .before .before .feed .ensures), omega (arith, c4 .before .before .before .feed .kept, c8 .before .before .before .loop .inv .1), c8 .before .before .before .loop .inv .2, c8 .before .before .before .loop .inv .3 ∙ turn-carries (c8 .before .before .before .loop .now) (c12 .before .before .args .input .now) (c8 .before .before .before .loop .out) (c8 .before .before .before .loop .from) (c4 .before .before .before .feed .result) _ (c8 .before .before .before .loop .inv .0) (c4 .before .before .before .feed .ensures))
 
 same-length-2 : tie.Need-same-length-2 Inv-loop μ-loop
 same-length-2 c = c .before .loop .inv .1

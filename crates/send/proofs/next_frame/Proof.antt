@@ -33,11 +33,15 @@ returns c =
 
 -- a frame call would send
 on : (c : tie.Else1) → isSent (frameStep limit (c .before .before .before .before .before .args .s) .answer) ≡ true
-on c = sym (c .before .is-sent .ensures ∙ ap (λ (st : Stepped). isSent (st .answer)) (c .before .before .frame .ensures)) ∙ not-false _ (c .if1 .left)
+on c =
+    let c4 = c .before .before .before .before in
+    sym (c .before .is-sent .ensures ∙ ap (λ (st : Stepped). isSent (st .answer)) (c .before .before .frame .ensures)) ∙ not-false _ (c .if1 .left)
 
 -- the test of the fields
 tested : (c : tie.After-data-listed) → let a = c .before .before .before .before .before .before .before .args in c .data-listed .result ≡ dataListed (headOf (a .s) (a .destination) (a .source) (a .tag))
-tested c = c .data-listed .ensures ∙ ap dataListed (c .before .head .ensures)
+tested c =
+    let c4 = c .before .before .before .before in
+    c .data-listed .ensures ∙ ap dataListed (c .before .head .ensures)
 
 head-requires : tie.Need-head-requires
 head-requires c κs = search needs
@@ -58,7 +62,10 @@ returns-2 c =
 
 -- the fields are listed
 listed : (c : tie.Else2) → let a = c .before .before .before .before .before .before .before .before .args in dataListed (headOf (a .s) (a .destination) (a .source) (a .tag)) ≡ true
-listed c = sym (tested (c .before)) ∙ not-false _ (c .if2 .left)
+listed c =
+    let c4 = c .before .before .before .before in
+    let c8 = c4 .before .before .before .before in
+    sym (tested (c .before)) ∙ not-false _ (c .if2 .left)
 
 frame-length-requires : tie.Need-frame-length-requires
 frame-length-requires c κs = search needs
@@ -85,7 +92,10 @@ wrote : (c : tie.After-write-data) → let a = c .before .before .before .before
     let h = headOf (a .s) (a .destination) (a .source) (a .tag) in
     Wrote (writeCauses h (now (a .body)) (now (a .out))) (dataLeft h (now (a .body)) (now (a .out))) (now (a .out)) (c .write-data .result) (c .write-data .last .1 .1 .0)
 wrote c =
-    let at-head = c .before .before .before .before .before .before in
+    let c4 = c .before .before .before .before in
+    let c8 = c4 .before .before .before .before in
+    let c12 = c8 .before .before .before .before in
+    let at-head = c4 .before .before in
     let a = at-head .before .before .before .before .before .before .args in
     subst (λ (h : DataHead). Wrote (writeCauses h (now (a .body)) (now (a .out))) (dataLeft h (now (a .body)) (now (a .out))) (now (a .out)) (c .write-data .result) (c .write-data .last .1 .1 .0))
     (at-head .head .ensures)

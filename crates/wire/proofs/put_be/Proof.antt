@@ -29,7 +29,9 @@ digits-requires c κs = search needs
 
 -- there are n digits
 count : (c : tie.After-digits) → let a = c .before .before .before .before .before .args in length (take (a .n) (c .digits .result)) ≡ a .n
-count c = let a = c .before .before .before .before .before .args in ap length (c .digits .ensures) ∙ length-beBytes (a .n) (a .v)
+count c =
+    let c4 = c .before .before .before .before in
+    let a = c4 .before .args in ap length (c .digits .ensures) ∙ length-beBytes (a .n) (a .v)
 
 array-share-prefix-d : tie.Need-array-share-prefix-d
 array-share-prefix-d c = search needs

@@ -23,7 +23,9 @@ array-share-prefix-block c = search needs
 -- the front of the block is the data
 front : (c : tie.After-copy) → let body = now (c .before .before .before .before .before .before .before .before .args .body) in take (length body) (c .copy .last .1 .0) ≡ body
 front c =
-    let body = now (c .before .before .before .before .before .before .before .before .args .body) in
+    let c4 = c .before .before .before .before in
+    let c8 = c4 .before .before .before .before in
+    let body = now (c8 .args .body) in
     held body (drop (length body) (replicate 1024 0)) (c .copy .last .1 .0) (c .copy .ensures .1)
 
 slice-aggregate-copy-2 : tie.Need-slice-aggregate-copy-2

@@ -48,17 +48,25 @@ kind-listed-requires c κs = search needs
 
 -- what the second test tests, and that the header is one of DATA behind it
 tested : (c : tie.After-kind-listed) → let s = now (c .before .before .before .before .before .before .args .s) in c .before .is-blank .result && c .kind-listed .result ≡ isBlank s && kindListed (headerOf s)
-tested c = λ i. c .before .is-blank .ensures i && (c .kind-listed .ensures ∙ ap kindListed (c .before .before .header-of .ensures)) i
+tested c =
+    let c4 = c .before .before .before .before in
+    λ i. c .before .is-blank .ensures i && (c .kind-listed .ensures ∙ ap kindListed (c .before .before .header-of .ensures)) i
 
 header : (c : tie.Else2) → let s = now (c .before .before .before .before .before .before .before .args .s) in isBlank s && kindListed (headerOf s) ≡ true
-header c = sym (tested (c .before)) ∙ not-false _ (c .if2 .left)
+header c =
+    let c4 = c .before .before .before .before in
+    sym (tested (c .before)) ∙ not-false _ (c .if2 .left)
 
 headers : (c : tie.Else2) → Laid (now (c .before .before .before .before .before .before .before .args .s))
-headers c = laid (now (c .before .before .before .before .before .before .before .args .s)) (header c)
+headers c =
+    let c4 = c .before .before .before .before in
+    laid (now (c4 .before .before .before .args .s)) (header c)
 
 -- the fill count is byte 11, below 4
 count : (c : tie.Else2) → c .before .before .before .header-of .result .fill ≡ getD (now (c .before .before .before .before .before .before .before .args .s)) 11 0
-count c = ap (λ (h : Header). h .fill) (c .before .before .before .header-of .ensures)
+count c =
+    let c4 = c .before .before .before .before in
+    ap (λ (h : Header). h .fill) (c .before .before .before .header-of .ensures)
 
 few : (c : tie.Else2) → c .before .before .before .header-of .result .fill < 4
 few c = omega (arith, count c, headers c .fill)
@@ -82,6 +90,8 @@ ends-zero-requires c κs = few (c .before)
 -- the last test, on the last word, is that of the fill
 full : (c : tie.After-ends-zero) → c .ends-zero .result ≡ filled (now (c .before .before .before .before .before .before .before .before .before .args .s))
 full c =
+    let c4 = c .before .before .before .before in
+    let c8 = c4 .before .before .before .before in
     let else2 = c .before .before in
     let else1 = else2 .before .before .before .before in
     let known = else1 .before .before in
@@ -102,7 +112,9 @@ returns-3 c =
     by-field Refused (Frame (dataOf s)) (size else1) (and-false (isBlank s && kindListed (headerOf s)) (sym (full (c .before)) ∙ not-true _ (c .if3 .taken)))
 
 sub-t11 : tie.Need-sub-t11
-sub-t11 c = omega (arith, sizes (c .before .before .before .before .before .before .before) .least)
+sub-t11 c =
+    let c4 = c .before .before .before .before in
+    omega (arith, sizes (c4 .before .before .before) .least)
 
 cast-t14 : tie.Need-cast-t14
 cast-t14 c = search needs
@@ -111,7 +123,10 @@ sub-t15 : tie.Need-sub-t15
 sub-t15 c = let else2 = c .before .before .before .before in omega (arith, few else2, sizes (else2 .before .before .before .before) .least)
 
 cast-t16 : tie.Need-cast-t16
-cast-t16 c = omega (arith, sizes (c .before .before .before .before .before .before .before .before) .most)
+cast-t16 c =
+    let c4 = c .before .before .before .before in
+    let c8 = c4 .before .before .before .before in
+    omega (arith, sizes (c8) .most)
 
 returns-4 : tie.Need-returns-4
 unfolding readData

@@ -54,12 +54,16 @@ data-header-requires : tie.Need-data-header-requires
 data-header-requires c κs = search needs
 
 put-header-requires : tie.Need-put-header-requires
-put-header-requires c κs = omega (arith, fits (c .before .before .before .before .before) .room)
+put-header-requires c κs =
+    let c4 = c .before .before .before .before in
+    omega (arith, fits (c4 .before) .room)
 
 -- after the header the output is as long as before
 room : (c : tie.After-put-header) → let a = c .before .before .before .before .before .before .before .before .before .before .args in Fitting (length (now (a .body))) (length (c .put-header .last .1 .0))
 room c =
-    let else1 = c .before .before .before .before .before .before in
+    let c4 = c .before .before .before .before in
+    let c8 = c4 .before .before .before .before in
+    let else1 = c4 .before .before in
     let f = fits else1 in
     record { most = f .most; least = f .least; room = omega (arith, f .room, c .put-header .kept .1 .0) }
 

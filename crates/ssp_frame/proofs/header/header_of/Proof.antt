@@ -51,12 +51,13 @@ cast-t22 c = search needs
 
 returns : tie.Need-returns
 returns c =
-    let known = c .before .before .before .before .before in
+    let c4 = c .before .before .before .before in
+    let known = c4 .before in
     let start = known .before in
     let s = now (start .args .s) in
     let long : 24 ≤ length s = start .pre in
     let small : (i : ℕ) → getD s i 0 < 256 = λ i. omega (arith, known .shared-slice-known .given i) in
-    let to = found s 0 4 (omega arith) (omega arith) (c .before .before .before .before .get-be .ensures) in
+    let to = found s 0 4 (omega arith) (omega arith) (c4 .get-be .ensures) in
     let from = found s 4 4 (omega arith) (omega arith) (c .before .before .before .get-be2 .ensures) in
     let flags = found s 8 4 (omega arith) (omega arith) (c .before .before .get-be3 .ensures) in
     let tags = found s 16 4 (omega arith) (omega arith) (c .before .get-be4 .ensures) in

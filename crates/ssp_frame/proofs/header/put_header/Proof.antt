@@ -13,22 +13,30 @@ use Rattle.ssp_frame.proofs.header.put_header.Tie as tie
 
 -- the places after the stores, last to first, and the entry
 abbrev at5 : tie.After-put-be6 → tie.After-put-be5
-at5 c = c .before .before .before .before .before
+at5 c =
+    let c4 = c .before .before .before .before in
+    c4 .before
 
 abbrev at4 : tie.After-put-be5 → tie.After-put-be4
-at4 c = c .before .before .before .before .before .before
+at4 c =
+    let c4 = c .before .before .before .before in
+    c4 .before .before
 
 abbrev at3 : tie.After-put-be4 → tie.After-put-be3
 at3 c = c .before .before .before .before
 
 abbrev at2 : tie.After-put-be3 → tie.After-put-be2
-at2 c = c .before .before .before .before .before .before
+at2 c =
+    let c4 = c .before .before .before .before in
+    c4 .before .before
 
 abbrev at1 : tie.After-put-be2 → tie.After-put-be
 at1 c = c .before .before .before .before
 
 abbrev at-start : tie.After-put-be → tie.Start
-at-start c = c .before .before .before .before .before .before
+at-start c =
+    let c4 = c .before .before .before .before in
+    c4 .before .before
 
 cast-put-be : tie.Need-cast-put-be
 cast-put-be c = search needs
