@@ -1,5 +1,6 @@
 -- The numbers of what a link hears, does and remembers: each table is read backwards by its own list, as crate xl_numbers shows. Assumes nothing.
 use Prim.Native.Nat.{ℕ, _<_}
+use mathlib.Core.List.{[], _∷_, map}
 use mathlib.Core.Path.{_≡_, refl}
 use Rattle.xl_parts.specs.declared.Phase.{Phase}
 use Rattle.xl_parts.specs.declared.Wait.{Wait}
@@ -26,7 +27,9 @@ use Rattle.xl_numbers.specs.States.{phaseOf, aipNumber, aipOf, statusNumber}
 use Rattle.xl_numbers.specs.Codes.{eventNumber, eventOf, actionNumber, actionOf}
 use Rattle.xl_numbers.proofs.KindTrips.{wait-named, reject-named, denial-named, arbitration-named}
 use Rattle.xl_numbers.proofs.StateTrips.{phase-named, aip-named, one-status}
+use Rattle.xl_numbers.specs.Typed.{typedEvents, typedCodes, typedActions, typedActionCodes, typedRejects, typedWaits, typedDenials, typedArbitrations, typedPhases, typedAips, typedStatuses}
 use Rattle.xl_numbers.proofs.CodeTrips.{event-named, action-named}
+use Rattle.xl_numbers.proofs.Typed.{events-typed, actions-typed, rejects-typed, waits-typed, denials-typed, arbitrations-typed, phases-typed, aips-typed, statuses-typed}
 
 -- a number names a value exactly if it is the value's own
 pub record LinkNumbers : Type 0 where
@@ -46,6 +49,16 @@ pub record LinkNumbers : Type 0 where
   pub sent : (m : Message) → actionNumber (Action.Send m) ≡ eventNumber (Event.Router m)
   pub broken : actionNumber (Action.Break BreakAction.Transmit) ≡ eventNumber (Event.Break BreakEvent.Received)
   pub routed : actionNumber (Action.Break BreakAction.Send) ≡ eventNumber (Event.Break BreakEvent.Routed)
+  -- and the numbers are those that are typed a second time
+  pub typed-events : map eventNumber typedEvents ≡ typedCodes
+  pub typed-actions : map actionNumber typedActions ≡ typedActionCodes
+  pub typed-rejects : map rejectNumber typedRejects ≡ 0 ∷ 1 ∷ 2 ∷ 3 ∷ 4 ∷ 5 ∷ 6 ∷ 7 ∷ []
+  pub typed-waits : map waitNumber typedWaits ≡ 0 ∷ 1 ∷ 2 ∷ 3 ∷ []
+  pub typed-denials : map denialNumber typedDenials ≡ 0 ∷ 1 ∷ 2 ∷ 3 ∷ []
+  pub typed-arbitrations : map arbitrationNumber typedArbitrations ≡ 0 ∷ 1 ∷ 2 ∷ []
+  pub typed-phases : map phaseNumber typedPhases ≡ 0 ∷ 1 ∷ 2 ∷ 3 ∷ 4 ∷ 5 ∷ 6 ∷ 7 ∷ 8 ∷ 9 ∷ 10 ∷ []
+  pub typed-aips : map aipNumber typedAips ≡ 0 ∷ 1 ∷ 2 ∷ 3 ∷ 4 ∷ []
+  pub typed-statuses : map statusNumber typedStatuses ≡ 48 ∷ 49 ∷ 50 ∷ 51 ∷ []
 
 pub link-numbers : LinkNumbers
 link-numbers = record {
@@ -62,4 +75,13 @@ link-numbers = record {
   sent = λ m. refl;
   broken = refl;
   routed = refl;
+  typed-events = events-typed;
+  typed-actions = actions-typed;
+  typed-rejects = rejects-typed;
+  typed-waits = waits-typed;
+  typed-denials = denials-typed;
+  typed-arbitrations = arbitrations-typed;
+  typed-phases = phases-typed;
+  typed-aips = aips-typed;
+  typed-statuses = statuses-typed;
 }

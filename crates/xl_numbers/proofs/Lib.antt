@@ -3,3 +3,4 @@ pub mod Lists
 pub mod KindTrips
 pub mod StateTrips
 pub mod CodeTrips
+pub mod Typed

@@ -3,3 +3,4 @@ pub mod Names
 pub mod Details
 pub mod States
 pub mod Codes
+pub mod Typed
