@@ -1,224 +1,17 @@
 /*
- * START and every call of a transfer against a model with a queue: it holds where each unanswered frame ends, and an answer takes
- * the oldest out. The model is written from document 01 alone and knows no count of frames but its queue's.
+ * START and every call of a transfer against a model with a queue (steps_model.h).
  *
  * Calls the crate bench_steps.
  */
-#include "steps.h"
 #include "../bench/steps.h"
 #include "check.h"
 #include "plain.h"
+#include "steps_model.h"
 
 #include <stdio.h>
 #include <string.h>
 
-enum { BOUND = 64, MOST_RESENDS = 255, MOST_STEPS = 150, MOST_BODY = 1032, MOST_OUT = 24 + MOST_BODY + 8, CASES = 100000 };
-
-/* ---- The model */
-
-struct model {
-	bool running;
-	bool nak_seen; /* in this attempt */
-	uint64_t end, size, resends;
-	uint64_t read, balance, used;
-	uint64_t sent;        /* frames of this attempt */
-	uint64_t ends[BOUND]; /* of the unanswered frames, the oldest first */
-	size_t waiting;
-};
-
-struct request {
-	uint32_t b, n, m, r;
-};
-
-static bool in_range(const struct request *q)
-{
-	return q->n >= 1 && (uint64_t)q->b + q->n <= 4294967295 && q->m % 4 == 0 && q->m >= 4 && q->m <= 1024 &&
-	       q->r <= 255;
-}
-
-/* 01 READ.1 01 READ.5 01 REFUSAL.3 */
-static enum said start(struct model *t, const struct request *q)
-{
-	memset(t, 0, sizeof *t);
-	if (!in_range(q)) {
-		return REFUSED_RULES;
-	}
-	t->running = true;
-	t->read = t->balance = q->b;
-	t->end = (uint64_t)q->b + q->n;
-	t->size = q->m;
-	t->resends = q->r;
-	return SAID_OK;
-}
-
-/* 01 READ.14 */
-static enum said resend(struct model *t)
-{
-	t->read = t->balance;
-	t->sent = 0;
-	t->nak_seen = false;
-	t->used++;
-	return SAID_RETRY;
-}
-
-static enum said finish(struct model *t, enum said word)
-{
-	t->running = false;
-	t->waiting = 0;
-	return word;
-}
-
-/* 01 READ.2 */
-static uint64_t next_length(const struct model *t)
-{
-	uint64_t left = t->end - t->read;
-	return left < t->size ? left : t->size;
-}
-
-/* 01 READ.6 */
-static enum said push(struct model *t)
-{
-	t->read += next_length(t);
-	t->ends[t->waiting++] = t->read;
-	t->sent++;
-	return SAID_SENT;
-}
-
-/* What is said of a frame that goes next.
- * 01 REFUSAL.7 01 REFUSAL.8 01 REFUSAL.10 01 REFUSAL.13 */
-static enum said would_say(const struct model *t)
-{
-	if (!t->running) {
-		return REFUSED_UNFIT;
-	}
-	if (t->nak_seen) {
-		return REFUSED_DUE;
-	}
-	if (t->read == t->end) {
-		return REFUSED_SENT;
-	}
-	if (t->waiting == BOUND) {
-		return REFUSED_FULL;
-	}
-	return SAID_SENT;
-}
-
-static enum said frame(struct model *t)
-{
-	enum said said = would_say(t);
-	return said == SAID_SENT ? push(t) : said;
-}
-
-/* 01 REFUSAL.13 */
-static bool unfit(const struct model *t)
-{
-	return !t->running || t->waiting == 0;
-}
-
-/* 01 READ.3 01 READ.8 */
-static uint64_t pop(struct model *t)
-{
-	uint64_t end = t->ends[0];
-	t->waiting--;
-	memmove(t->ends, t->ends + 1, t->waiting * sizeof *t->ends);
-	return end;
-}
-
-static enum said drain(struct model *t)
-{
-	return t->waiting > 0 ? SAID_DRAIN : resend(t);
-}
-
-/* 01 READ.9 01 READ.10 */
-static enum said ack(struct model *t)
-{
-	if (unfit(t)) {
-		return REFUSED_UNFIT;
-	}
-	uint64_t end = pop(t);
-	if (t->nak_seen) {
-		return drain(t);
-	}
-	if (t->waiting > 0) {
-		return SAID_OK;
-	}
-	t->balance = end;
-	return end == t->end ? finish(t, SAID_DONE) : SAID_OK;
-}
-
-/* 01 READ.11 */
-static enum said nak(struct model *t)
-{
-	if (unfit(t)) {
-		return REFUSED_UNFIT;
-	}
-	pop(t);
-	if (t->used == t->resends) {
-		return finish(t, SAID_FAIL);
-	}
-	t->nak_seen = true;
-	return drain(t);
-}
-
-/* 01 READ.12 */
-static enum said drop(struct model *t)
-{
-	if (unfit(t)) {
-		return REFUSED_UNFIT;
-	}
-	t->waiting = 0;
-	return t->used == t->resends ? finish(t, SAID_FAIL) : resend(t);
-}
-
-/* 01 READ.13 */
-static enum said end(struct model *t)
-{
-	return t->running ? finish(t, SAID_END) : REFUSED_UNFIT;
-}
-
-struct sending {
-	uint64_t fields[DATA_FIELDS];
-	uint8_t body[MOST_BODY];
-	size_t body_len, out_len;
-};
-
-/* 01 DATA.1 01 READ.7 01 REFUSAL.11 */
-static enum said next_frame(struct model *t, const struct sending *g, uint8_t *out)
-{
-	enum said said = would_say(t);
-	if (said != SAID_SENT) {
-		return said;
-	}
-	if (g->fields[DATA_HASHED_DESTINATION] > 0xFFFFFF || g->fields[DATA_HASHED_SOURCE] > 0xFFFFFF) {
-		return REFUSED_UNLISTED;
-	}
-	if (g->body_len != next_length(t)) {
-		return REFUSED_LENGTH;
-	}
-	uint64_t fields[DATA_FIELDS];
-	memcpy(fields, g->fields, sizeof fields);
-	fields[DATA_CHANGING] = t->used > 0 && t->sent == 0;
-	fields[DATA_OFFSET] = t->read;
-	fields[DATA_LENGTH] = g->body_len;
-	if (plain_data_write(fields, g->body, out, g->out_len) != 0) {
-		return REFUSED_LENGTH;
-	}
-	return push(t);
-}
-
-static enum said model_call(struct model *t, enum call call, const struct sending *g, uint8_t *out)
-{
-	switch (call) {
-	case FRAME: return frame(t);
-	case ACK: return ack(t);
-	case NAK: return nak(t);
-	case TIMEOUT:
-	case LOST: return drop(t);
-	case NEXUS:
-	case CANCEL: return end(t);
-	default: return next_frame(t, g, out);
-	}
-}
+enum { MOST_RESENDS = 255, MOST_STEPS = 150, MOST_OUT = 24 + MOST_BODY + 8, CASES = 100000 };
 
 /* ---- What was held against the library; a line that no case showed is a failure. */
 
@@ -334,9 +127,9 @@ static uint8_t any_call(const uint8_t mix[CALLS])
 static bool frames_agree(const struct request *q, uint32_t frames)
 {
 	struct model t;
-	start(&t, q);
+	queue_start(&t, q);
 	for (uint32_t i = 0; i < frames; i++) {
-		frame(&t);
+		queue_call(&t, FRAME, NULL, NULL);
 	}
 	return bench_frames(q->b, q->n, q->m, q->r, frames) == t.read;
 }
@@ -344,12 +137,12 @@ static bool frames_agree(const struct request *q, uint32_t frames)
 static bool acks_agree(const struct request *q, uint32_t frames, uint32_t acks)
 {
 	struct model t;
-	start(&t, q);
+	queue_start(&t, q);
 	for (uint32_t i = 0; i < frames; i++) {
-		frame(&t);
+		queue_call(&t, FRAME, NULL, NULL);
 	}
 	for (uint32_t i = 0; i < acks; i++) {
-		ack(&t);
+		queue_call(&t, ACK, NULL, NULL);
 	}
 	return bench_acks(q->b, q->n, q->m, q->r, frames, acks) == t.balance;
 }
@@ -357,10 +150,10 @@ static bool acks_agree(const struct request *q, uint32_t frames, uint32_t acks)
 static bool turns_agree(const struct request *q, uint32_t rounds)
 {
 	struct model t;
-	start(&t, q);
+	queue_start(&t, q);
 	for (uint32_t i = 0; i < rounds; i++) {
-		frame(&t);
-		ack(&t);
+		queue_call(&t, FRAME, NULL, NULL);
+		queue_call(&t, ACK, NULL, NULL);
 	}
 	return bench_turns(q->b, q->n, q->m, q->r, rounds) == t.balance;
 }
@@ -370,11 +163,11 @@ static bool nexts_agree(const struct request *q, uint32_t frames)
 	uint8_t expected[MOST_OUT], out[MOST_OUT];
 	struct sending g = any_sending(q);
 	struct model t;
-	start(&t, q);
+	queue_start(&t, q);
 	noise_fill(expected, sizeof expected);
 	memcpy(out, expected, sizeof out);
 	for (uint32_t i = 0; i < frames; i++) {
-		next_frame(&t, &g, expected);
+		queue_call(&t, NEXT_FRAME, &g, expected);
 	}
 	uint32_t read = bench_next(q->b, q->n, q->m, q->r, frames, (uint32_t)g.fields[DATA_HASHED_DESTINATION],
 	                           (uint32_t)g.fields[DATA_HASHED_SOURCE], (uint16_t)g.fields[DATA_TAG], g.body,
@@ -387,11 +180,11 @@ static enum said model_calls(const struct request *q, const uint8_t *calls, size
                              uint8_t *out)
 {
 	struct model t;
-	enum said said = start(&t, q);
+	enum said said = queue_start(&t, q);
 	bool written = false;
 	for (size_t i = 0; i < count; i++) {
 		enum call call = calls[i] % CALLS;
-		said = model_call(&t, call, g, out);
+		said = queue_call(&t, call, g, out);
 		written |= call == NEXT_FRAME && said == SAID_SENT;
 	}
 	if (count == 0) {
