@@ -95,7 +95,8 @@ submitCore p kept v x =
 
 -- ---- cancel
 
--- 01 REFUSAL.2 01 REFUSAL.3 01 REFUSAL.5 01 REFUSAL.6 01 REFUSAL.14
+-- 01 REFUSAL.2 01 REFUSAL.3 01 REFUSAL.5 01 REFUSAL.6
+-- 01 REFUSAL.14: Cancel of a request absent or already cancelled.
 abbrev pub cancelCauses : Port → Request → Bool → ℕ → Withdrawn → List Cause
 cancelCauses p r kept s x =
     (Refusal.Unlisted when not (ltb (x .key .protocol) protocols))
@@ -252,7 +253,7 @@ failed p f r why k now =
 abbrev pub failedCauses : Port → Bool → Failure → Bool → List Cause
 failedCauses p kept x unfit = (Refusal.Unlisted when not (isListed (reasonOf (x .why)))) ∷ phyCauses p kept (x .phy) (x .now) unfit
 
--- 01 REFUSAL.14
+-- 01 REFUSAL.14: Opened or Open Failed, phy not opening
 unfoldable pub openFailedCore : Port → Request → Bool → Failure → Done
 openFailedCore p r kept x =
     refuse (refusedBy p) (failedCauses p kept x (not (isOpening (phyAt p (x .phy)))))
@@ -265,7 +266,7 @@ framed p f r x =
     ended (withPhy p (x .phy) (stagedPhy (cond (isSending f) phy-stage.idle phy-stage.closing) noSlot f) (x .now))
     (said (unlessCancelled r (Status (x .status))) (f .slot) (x .phy) r)
 
--- 01 REFUSAL.14
+-- 01 REFUSAL.14: frame status, no frame out
 unfoldable pub frameStatusCore : Port → Request → Bool → Report → Done
 frameStatusCore p r kept x =
     refuse (refusedBy p) (phyCauses p kept (x .phy) (x .now) (not (hasFrameOut (phyAt p (x .phy))))) (framed p (phyAt p (x .phy)) r x)
@@ -281,12 +282,12 @@ abbrev pub closedDone : Port → Phy → Request → Confirmed → Done
 closedDone p f r x =
     ended (withPhy p (x .phy) unconnectedPhy (x .now)) (said (cond (names f) (unlessCancelled r ConnectionLost) Taken) (f .slot) (x .phy) r)
 
--- 01 REFUSAL.14
+-- 01 REFUSAL.14: Closed, neither connected nor closing
 unfoldable pub closedCore : Port → Request → Bool → Confirmed → Done
 closedCore p r kept x =
     refuse (refusedBy p) (phyCauses p kept (x .phy) (x .now) (not (isJoined (phyAt p (x .phy))))) (closedDone p (phyAt p (x .phy)) r x)
 
--- 01 REFUSAL.14
+-- 01 REFUSAL.14: enabling an enabled
 -- it names no request, and at no slot nothing is stored
 unfoldable pub enableCore : Port → Request → Bool → Confirmed → Done
 enableCore p r kept x =
@@ -301,7 +302,7 @@ disabledDone p f r x =
     stored (withPhy p (x .phy) disabledPhy (x .now)) (said (cond (names f) (unlessCancelled r Waiting) Taken) (f .slot) (x .phy) r)
     (cond (isCancelled r) blank (placed r request-stage.waiting 0)) noLoss
 
--- 01 REFUSAL.14
+-- 01 REFUSAL.14: disabling a disabled phy
 unfoldable pub disableCore : Port → Request → Bool → Confirmed → Done
 disableCore p r kept x =
     refuse (refusedBy p) (phyCauses p kept (x .phy) (x .now) (isDisabled (phyAt p (x .phy)))) (disabledDone p (phyAt p (x .phy)) r x)
