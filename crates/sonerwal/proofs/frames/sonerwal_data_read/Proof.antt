@@ -5,8 +5,8 @@ use borrow.Author.Needs.{needs}
 use Rattle.sonerwal.specs.Face.{data6}
 use Rattle.sonerwal.proofs.Laws.{data-read}
 use Rattle.ssp_frame.specs.declared.data.DataFrame.{DataFrame}
-use Rattle.sonerwal.proofs.sas_data_read.Statement.{statement}
-use Rattle.sonerwal.proofs.sas_data_read.Tie as tie
+use Rattle.sonerwal.proofs.frames.sonerwal_data_read.Statement.{statement}
+use Rattle.sonerwal.proofs.frames.sonerwal_data_read.Tie as tie
 
 -- the six numbers as they were lent
 abbrev lent : tie.Start → DataFrame
@@ -39,7 +39,7 @@ returns-2 c =
     let w = data-read (now (start .args .frame)) (lent start) (sym (refused .k .given .1) ∙ read .read-data .ensures) in
     record { answer = c .number .ensures ∙ w .answer; leaves = w .leaves }
 
-pub sas-data-read-spec : {M : Type 1} → statement M
-sas-data-read-spec =
+pub sonerwal-data-read-spec : {M : Type 1} → statement M
+sonerwal-data-read-spec =
     tie.close
     (tie.spec read-data-requires enum-known-f enum-known-k number-requires returns returns-2)

@@ -5,8 +5,8 @@ use borrow.Author.Needs.{needs}
 use Rattle.sonerwal.specs.Face.{open9}
 use Rattle.sonerwal.proofs.Laws.{open-read}
 use Rattle.open_frame.specs.declared.OpenFrame.{OpenFrame}
-use Rattle.sonerwal.proofs.sas_open_read.Statement.{statement}
-use Rattle.sonerwal.proofs.sas_open_read.Tie as tie
+use Rattle.sonerwal.proofs.frames.sonerwal_open_read.Statement.{statement}
+use Rattle.sonerwal.proofs.frames.sonerwal_open_read.Tie as tie
 
 -- the nine numbers as they were lent
 abbrev lent : tie.Start → OpenFrame
@@ -41,7 +41,7 @@ returns-2 c =
     let w = open-read (now (start .args .frame)) (lent start) (sym (refused .k .given .1) ∙ read .read-open .ensures) in
     record { answer = c .number .ensures ∙ w .answer; leaves = w .leaves }
 
-pub sas-open-read-spec : {M : Type 1} → statement M
-sas-open-read-spec =
+pub sonerwal-open-read-spec : {M : Type 1} → statement M
+sonerwal-open-read-spec =
     tie.close
     (tie.spec read-open-requires enum-known-f enum-known-k number-requires returns returns-2)
