@@ -10,6 +10,8 @@ use ssp_frame::data;
 use ssp_frame::data::DataHead;
 use ssp_frame::data::DataRead;
 
+pub mod transfer;
+
 // 01 FORM.3: extern "C" functions over byte slices and numbers for OPEN and DATA frames.
 // Fills the nine numbers with the fields of the OPEN frame in frame.
 #[no_mangle]
