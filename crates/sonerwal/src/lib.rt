@@ -4,6 +4,7 @@ ghost use mathlib.Core.Path.{_≡_};
 ghost use Rattle.sonerwal.specs.Face as face;
 
 pub mod frames;
+pub mod link;
 pub mod transfer;
 
 // Of the archive; the header has its own.
