@@ -1,6 +1,9 @@
 // 01 DATA.5: C firmware of the board calls the frame readers and writers.
 // What C calls, as include/sonerwal.h declares it: byte slices and numbers, and 0 or a refusal's number as the answer.
 ghost use Rattle.sonerwal.specs.Face.{open9, openLent, dataLent, dataGiven, reading, writing, OpenReads, OpenWrites, DataReads, DataWrites};
+
+pub mod link;
+
 use open_frame::Awt;
 use open_frame::Head;
 use open_frame::OpenFrame;

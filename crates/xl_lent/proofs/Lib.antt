@@ -1,0 +1,2 @@
+-- The laws of a lent link, and of what C sees of its calls.
+pub mod Laws
