@@ -1,6 +1,6 @@
 -- Priority is a strict order on (AWT, source): the two numbers are compared one after the other, and between lists of one length
 -- the first place at which they differ decides for both sides. Assumes nothing.
-use mathlib.Core.Bool.{Bool, true, false, true≢false, cond, _&&_, _||_}
+use mathlib.Core.Bool.{Bool, true, false, true≢false, _&&_, _||_}
 use mathlib.Core.List.{List}
 use mathlib.Core.Logic.{_⊎_, inl, inr, _↔_}
 use mathlib.Core.Path.{_≡_, refl, sym, ap, subst, subst⁻¹, _∙_}
@@ -8,6 +8,7 @@ use Prim.Native.Nat.{ℕ, _<_}
 use lib.Dec.{ltb, eqb}
 use lib.ListN.{getD}
 use native.Mathlib.Omega.{arith}
+use Rattle.laws.specs.Names.{flag}
 use Rattle.laws.specs.Tests.{Says}
 use Rattle.laws.proofs.Bools.{and-false, or-alone}
 use Rattle.laws.proofs.Order.{Compared, above, below, equal}
@@ -69,10 +70,7 @@ exactly-so f g =
     (either (less (g .awt .0) (f .awt .0)) (both (tests.equal (f .awt .0) (g .awt .0)) (less (g .head .source) (f .head .source))))
 
 -- a test as a number
-abbrev bit : Bool → ℕ
-bit t = cond t 1 0
-
-counted : (t : Bool) {A : Type 0} → Says t A → ((bit t ≡ 1) ↔ A) × ((bit t ≡ 0) ⊎ (bit t ≡ 1))
+counted : (t : Bool) {A : Type 0} → Says t A → ((flag t ≡ 1) ↔ A) × ((flag t ≡ 0) ⊎ (flag t ≡ 1))
 counted true s = (((λ e. s .0 refl), (λ a. refl)), inr refl)
 counted false s = (((λ e. absurd (omega arith)), (λ a. absurd (true≢false (sym (s .1 a))))), inl refl)
 

@@ -3,14 +3,9 @@
 ghost use mathlib.Core.Path.{_≡_};
 ghost use Rattle.sonerwal.specs.Face as face;
 
-mod frames;
-
-pub use frames::sonerwal_data_read;
-pub use frames::sonerwal_data_write;
-pub use frames::sonerwal_open_higher;
-pub use frames::sonerwal_open_read;
-pub use frames::sonerwal_open_write;
-pub use frames::sonerwal_wait_value;
+pub mod frames;
+pub mod link;
+pub mod transfer;
 
 // Of the archive; the header has its own.
 #[no_mangle]

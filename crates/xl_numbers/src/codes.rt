@@ -1,6 +1,7 @@
 // Events and actions as two numbers, a kind and a detail. What one link says is what another hears, so a code serves the action and
 // the event alike.
 ghost use mathlib.Core.Path.{_≡_};
+ghost use Rattle.laws.specs.Names as names;
 ghost use Rattle.xl_numbers.specs.Codes as codes;
 ghost use Rattle.xl_numbers.specs.Codes.{primitiveNumber, messageNumber, confirmationNumber, noticeNumber, breakNumber, eventNumber, upTo, fromLine, fromRouter, fromManager, eventOf, actionNumber, actionOf};
 use crate::details;
@@ -13,7 +14,8 @@ use xl_parts::Message;
 use xl_parts::Notice;
 use xl_parts::Primitive;
 
-// The detail is 0 where a kind has none.
+// The detail is 0 where a kind has none. C lends one for an event, and gets one for each action.
+#[repr(C)]
 pub struct Code {
     pub kind: u8,
     pub detail: u8,
@@ -233,7 +235,7 @@ fn said(e: Event) -> ActionRead
 }
 
 fn flag(t: bool) -> u8
-    ensures { λ r. ⌜ r ≡ codes.flag t ⌝ }
+    ensures { λ r. ⌜ r ≡ names.flag t ⌝ }
 {
     if t { 1 } else { 0 }
 }

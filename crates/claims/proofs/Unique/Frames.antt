@@ -33,20 +33,20 @@ use Rattle.ssp_frame.proofs.data.read_data.Kinds as read-data-of
 use Rattle.ssp_frame.proofs.data.read_data.Reads as read-data
 use Rattle.ssp_frame.proofs.data.write_data.Kinds as write-data-of
 use Rattle.ssp_frame.proofs.data.write_data.Reads as write-data
-use Rattle.sonerwal.proofs.sonerwal_open_read.Kinds as sonerwal-open-read-of
-use Rattle.sonerwal.proofs.sonerwal_open_read.Reads as sonerwal-open-read
-use Rattle.sonerwal.proofs.sonerwal_open_write.Kinds as sonerwal-open-write-of
-use Rattle.sonerwal.proofs.sonerwal_open_write.Reads as sonerwal-open-write
-use Rattle.sonerwal.proofs.sonerwal_data_read.Kinds as sonerwal-data-read-of
-use Rattle.sonerwal.proofs.sonerwal_data_read.Reads as sonerwal-data-read
-use Rattle.sonerwal.proofs.sonerwal_data_write.Kinds as sonerwal-data-write-of
-use Rattle.sonerwal.proofs.sonerwal_data_write.Reads as sonerwal-data-write
+use Rattle.sonerwal.proofs.frames.sonerwal_open_read.Kinds as sonerwal-open-read-of
+use Rattle.sonerwal.proofs.frames.sonerwal_open_read.Reads as sonerwal-open-read
+use Rattle.sonerwal.proofs.frames.sonerwal_open_write.Kinds as sonerwal-open-write-of
+use Rattle.sonerwal.proofs.frames.sonerwal_open_write.Reads as sonerwal-open-write
+use Rattle.sonerwal.proofs.frames.sonerwal_data_read.Kinds as sonerwal-data-read-of
+use Rattle.sonerwal.proofs.frames.sonerwal_data_read.Reads as sonerwal-data-read
+use Rattle.sonerwal.proofs.frames.sonerwal_data_write.Kinds as sonerwal-data-write-of
+use Rattle.sonerwal.proofs.frames.sonerwal_data_write.Reads as sonerwal-data-write
 use Rattle.sonerwal.proofs.sonerwal_version.Kinds as sonerwal-version-of
 use Rattle.sonerwal.proofs.sonerwal_version.Reads as sonerwal-version
-use Rattle.sonerwal.proofs.sonerwal_wait_value.Kinds as sonerwal-wait-value-of
-use Rattle.sonerwal.proofs.sonerwal_wait_value.Reads as sonerwal-wait-value
-use Rattle.sonerwal.proofs.sonerwal_open_higher.Kinds as sonerwal-open-higher-of
-use Rattle.sonerwal.proofs.sonerwal_open_higher.Reads as sonerwal-open-higher
+use Rattle.sonerwal.proofs.frames.sonerwal_wait_value.Kinds as sonerwal-wait-value-of
+use Rattle.sonerwal.proofs.frames.sonerwal_wait_value.Reads as sonerwal-wait-value
+use Rattle.sonerwal.proofs.frames.sonerwal_open_higher.Kinds as sonerwal-open-higher-of
+use Rattle.sonerwal.proofs.frames.sonerwal_open_higher.Reads as sonerwal-open-higher
 use Rattle.claims.proofs.Calls.{One, none}
 use Rattle.claims.proofs.Named.{behind3, behind9, first6, first9, open-of, data-of}
 
