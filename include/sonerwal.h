@@ -680,7 +680,7 @@ SONERWAL_SIZE(phy, 16);
  * A port.
  *
  *   last   the time of the last call, in microseconds
- *   phys   those that it has, from 0 on; the others are all zeros
+ *   phys   those that it has, from 0 on; the others are disabled
  *   loss   loss time in milliseconds, 1 to 65,535; 65,535: never
  *   count  its phys, 1 to 8
  *
