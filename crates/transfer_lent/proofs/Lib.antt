@@ -4,3 +4,5 @@ pub mod Typed
 pub mod Members
 mod Length
 pub mod Seen
+pub mod Runs
+pub mod Demand
