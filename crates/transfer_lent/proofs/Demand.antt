@@ -27,7 +27,7 @@ use Rattle.transfer_lent.proofs.Runs.{callOf, step-shown, run-shown, en
 pub one-phase : (p q : Phase) → phaseNumber p ≡ phaseNumber q → p ≡ q
 one-phase p q e = sym (phase-back p .1) ∙ ap phaseOf e ∙ phase-back q .1
 
-is-unfinished : (t : Transfer) → Unfinished (shown t) → unfinished (t .phase) ≡ true
+pub is-unfinished : (t : Transfer) → Unfinished (shown t) → unfinished (t .phase) ≡ true
 is-unfinished t (inl e) = ap unfinished (one-phase (t .phase) Phase.Run e)
 is-unfinished t (inr e) = ap unfinished (one-phase (t .phase) Phase.Drain e)
 

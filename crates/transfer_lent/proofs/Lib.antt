@@ -6,3 +6,4 @@ mod Length
 pub mod Seen
 pub mod Runs
 pub mod Demand
+pub mod Reach
