@@ -160,8 +160,8 @@ static struct head any_head(const struct mood *mood, const struct request *list)
 	struct head head = {
 		.initiator = (uint8_t)noise_below(2),
 		.protocol = key.protocol,
-		.features = (uint8_t)noise_below(16),
-		.rate = (uint8_t)(8 + noise_below(3)),
+		.features = (uint16_t)noise_below(16),
+		.rate = (uint16_t)(8 + noise_below(3)),
 		.tag = key.tag,
 		.destination = key.destination,
 		.source = noise(),
@@ -169,9 +169,9 @@ static struct head any_head(const struct mood *mood, const struct request *list)
 	switch (noise_below(200)) {
 	case 0: head.initiator = (uint8_t)(2 + noise_below(254)); break;
 	case 1: head.protocol = (uint8_t)(3 + noise_below(253)); break;
-	case 2: head.features = (uint8_t)(16 + noise_below(240)); break;
-	case 3: head.rate = (uint8_t)noise_below(8); break;
-	case 4: head.rate = (uint8_t)(11 + noise_below(245)); break;
+	case 2: head.features = (uint16_t)(16 + noise_below(65520)); break;
+	case 3: head.rate = (uint16_t)noise_below(8); break;
+	case 4: head.rate = (uint16_t)(11 + noise_below(65525)); break;
 	default: break;
 	}
 	return head;

@@ -51,8 +51,8 @@ enum reason {
 
 /* What an OPEN says of its request. */
 struct head {
-	uint8_t initiator, protocol, features, rate;
-	uint16_t tag;
+	uint8_t initiator, protocol;
+	uint16_t features, rate, tag;
 	uint64_t destination, source;
 };
 

@@ -68,7 +68,7 @@ fn frame(n: u8, destination: u64, source: u64) -> OpenFrame
             initiator: 1,
             protocol: 1,
             features: 0,
-            rate: (source % 256) as u8,
+            rate: (source % 256) as u16,
             tag: 0,
             destination,
             source,

@@ -10,8 +10,8 @@ use Rattle.open_frame.specs.Open.{byte0, byte1}
 pub byte0-joined : (i p : ℕ) → i < 2 → p < 8 → bitOr (i * 128 % 256) (bitOr (p * 16 % 256) 1) ≡ byte0 i p
 byte0-joined i p hi hp = rw (joined 4 256 p 1 (omega arith) (omega arith)) (joined 7 256 i (p * 16 + 1) (omega arith) (omega arith))
 
-pub byte1-joined : (f r : ℕ) → f < 16 → r < 16 → bitOr (f * 16 % 256) r ≡ byte1 f r
-byte1-joined f r hf hr = joined 4 256 f r (omega arith) hr
+pub byte1-joined : (f r : ℕ) → f < 16 → r < 16 → bitOr (f * 16 % 65536) r ≡ byte1 f r
+byte1-joined f r hf hr = joined 4 65536 f r (omega arith) hr
 
 -- ROUND TRIP 1 of byte 0 and of byte 1: what was joined is split
 pub record Split (i p f r : ℕ) : Type 0 where

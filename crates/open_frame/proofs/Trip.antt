@@ -73,6 +73,10 @@ found s f e =
       same = cc (p .1 .1);
     }
 
+-- a frame that was read has fields of OPEN
+pub read-listed : (s : List ℕ) (f : OpenFrame) → readOpen s ≡ Frame f → Listed (f .head)
+read-listed s f e = let r = found s f e in listed-is (f .head) (subst (λ (g : OpenFrame). headListed (g .head) ≡ true) (r .same) (r .listed))
+
 abbrev parts : List ℕ → List ℕ
 parts s =
     getD s 0 0

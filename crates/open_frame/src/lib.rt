@@ -18,10 +18,10 @@ pub struct Head {
     pub initiator: u8,
     // 0 SMP, 1 SSP, 2 STP.
     pub protocol: u8,
-    // Four bits.
-    pub features: u8,
+    // Four bits; two bytes wide, as the rate is, so that a lent head has no padding.
+    pub features: u16,
     // 8, 9 or 10.
-    pub rate: u8,
+    pub rate: u16,
     // The initiator connection tag.
     pub tag: u16,
     pub destination: u64,
@@ -88,7 +88,7 @@ fn byte0(initiator: u8, protocol: u8) -> u8
 }
 
 // Byte 1.
-fn byte1(features: u8, rate: u8) -> u8
+fn byte1(features: u16, rate: u16) -> u16
     requires { ⌜ (features < 16) × (rate < 16) ⌝ }
     ensures { λ r. ⌜ r ≡ opens.byte1 features rate ⌝ }
 {
@@ -109,8 +109,8 @@ fn head_of(s: &[u8]) -> Head
     Head {
         initiator: top(s[0]),
         protocol: middle(s[0]),
-        features: high(s[1]),
-        rate: low(s[1]),
+        features: high(s[1]) as u16,
+        rate: low(s[1]) as u16,
         tag: wire::get_be(s, 2, 2) as u16,
         destination: wire::get_be(s, 4, 8),
         source: wire::get_be(s, 12, 8),

@@ -34,8 +34,8 @@ pub extern "C" fn sonerwal_open_read(
         OpenRead::Frame(f) => {
             *initiator = f.head.initiator;
             *protocol = f.head.protocol;
-            *features = f.head.features;
-            *rate = f.head.rate;
+            *features = f.head.features as u8;
+            *rate = f.head.rate as u8;
             *tag = f.head.tag;
             *destination = f.head.destination;
             *source = f.head.source;
@@ -67,8 +67,8 @@ pub extern "C" fn sonerwal_open_write(
         head: Head {
             initiator,
             protocol,
-            features,
-            rate,
+            features: features as u16,
+            rate: rate as u16,
             tag,
             destination,
             source,

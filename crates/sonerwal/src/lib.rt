@@ -4,6 +4,7 @@ ghost use mathlib.Core.Path.{_≡_};
 ghost use Rattle.sonerwal.specs.Face as face;
 
 mod frames;
+pub mod link;
 pub mod transfer;
 
 pub use frames::sonerwal_data_read;

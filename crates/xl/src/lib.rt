@@ -106,7 +106,7 @@ fn refused(s: State, k: Refusal) -> Stepped
 }
 
 // Whether a frame goes with the event that has not the fields of OPEN.
-fn brings_unlisted(e: Event, f: OpenFrame) -> bool
+pub fn brings_unlisted(e: Event, f: OpenFrame) -> bool
     ensures { λ r. ⌜ r ≡ hasFrame e && not (headListed (f .head)) ⌝ }
 {
     let head = f.head;

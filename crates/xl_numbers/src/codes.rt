@@ -14,7 +14,8 @@ use xl_parts::Message;
 use xl_parts::Notice;
 use xl_parts::Primitive;
 
-// The detail is 0 where a kind has none.
+// The detail is 0 where a kind has none. C lends one for an event, and gets one for each action.
+#[repr(C)]
 pub struct Code {
     pub kind: u8,
     pub detail: u8,

@@ -44,7 +44,7 @@ fn frame_of(tag: u16, c: Crossing) -> OpenFrame {
     if c.back == 1 {
         destination = 1000;
     }
-    frames::frame(tag, awt_of(c.n), destination, source_of(c.n), c.rate)
+    frames::frame(tag, awt_of(c.n), destination, source_of(c.n), c.rate as u16)
 }
 
 fn crossed(heard: Held, aip: Seen) -> Memory {

@@ -5,7 +5,7 @@ use open_frame::OpenFrame;
 use open_frame::Pbc;
 use xl_parts::Held;
 
-pub(crate) fn frame(tag: u16, awt: u16, destination: u64, source: u64, rate: u8) -> OpenFrame {
+pub(crate) fn frame(tag: u16, awt: u16, destination: u64, source: u64, rate: u16) -> OpenFrame {
     OpenFrame {
         head: Head {
             initiator: 1,

@@ -26,17 +26,23 @@ shared-slice-read-high c = search needs
 high-requires : tie.Need-high-requires
 high-requires c κs = search needs
 
+cast-t11 : tie.Need-cast-t11
+cast-t11 c = search needs
+
 shared-slice-read-low : tie.Need-shared-slice-read-low
 shared-slice-read-low c = search needs
 
 low-requires : tie.Need-low-requires
 low-requires c κs = search needs
 
+cast-t15 : tie.Need-cast-t15
+cast-t15 c = search needs
+
 get-be-requires : tie.Need-get-be-requires
 get-be-requires c κs = search needs
 
-cast-t15 : tie.Need-cast-t15
-cast-t15 c = search needs
+cast-t17 : tie.Need-cast-t17
+cast-t17 c = search needs
 
 get-be-requires-2 : tie.Need-get-be-requires-2
 get-be-requires-2 c κs = search needs
@@ -76,10 +82,12 @@ head-of-spec =
     middle-requires
     shared-slice-read-high
     high-requires
+    cast-t11
     shared-slice-read-low
     low-requires
-    get-be-requires
     cast-t15
+    get-be-requires
+    cast-t17
     get-be-requires-2
     get-be-requires-3
     returns)

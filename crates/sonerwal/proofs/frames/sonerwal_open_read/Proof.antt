@@ -1,9 +1,12 @@
--- The reader found a frame, whose fields are left, or refused, and all stays. Assumes nothing.
+-- The reader found a frame, whose fields are left, features and rate within a byte since they are listed, or refused, and all stays. Assumes nothing.
 use mathlib.Core.Path.{_∙_, sym}
+use native.Mathlib.Omega.{arith}
 use denote.Ref.{now}
 use borrow.Author.Needs.{needs}
 use Rattle.sonerwal.specs.Face.{open9}
 use Rattle.sonerwal.proofs.Laws.{open-read}
+use Rattle.open_frame.proofs.Fields.{Listed}
+use Rattle.open_frame.proofs.Trip.{read-listed}
 use Rattle.open_frame.specs.declared.OpenFrame.{OpenFrame}
 use Rattle.sonerwal.proofs.frames.sonerwal_open_read.Statement.{statement}
 use Rattle.sonerwal.proofs.frames.sonerwal_open_read.Tie as tie
@@ -20,6 +23,16 @@ read-open-requires c κs = search needs
 enum-known-f : tie.Need-enum-known-f
 enum-known-f c = search needs
 
+-- the frame that was found is listed
+listed : (c : tie.After-f) → Listed (c .f .given .0 .0 .head)
+listed c = let read = c .before .before in read-listed (now (read .before .before .args .frame)) (c .f .given .0 .0) (sym (read .read-open .ensures) ∙ c .f .given .1)
+
+cast-features : tie.Need-cast-features
+cast-features c = let l = listed (c .before .before) in omega (arith, l .features)
+
+cast-rate : tie.Need-cast-rate
+cast-rate c = let l = listed (c .before .before .before) in omega (arith, l .most)
+
 enum-known-k : tie.Need-enum-known-k
 enum-known-k c = search needs
 
@@ -28,7 +41,7 @@ number-requires c κs = search needs
 
 returns : tie.Need-returns
 returns c =
-    let found = c .before in
+    let found = c .before .before .before in
     let read = found .before .before in
     let start = read .before .before in
     open-read (now (start .args .frame)) (lent start) (sym (found .f .given .1) ∙ read .read-open .ensures)
@@ -44,4 +57,4 @@ returns-2 c =
 pub sonerwal-open-read-spec : {M : Type 1} → statement M
 sonerwal-open-read-spec =
     tie.close
-    (tie.spec read-open-requires enum-known-f enum-known-k number-requires returns returns-2)
+    (tie.spec read-open-requires enum-known-f cast-features cast-rate enum-known-k number-requires returns returns-2)

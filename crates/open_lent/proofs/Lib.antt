@@ -1,0 +1,2 @@
+-- The laws of OPEN as C lends it.
+pub mod Trips

@@ -1,0 +1,3 @@
+-- OPEN as C lends it.
+pub mod Lent
+pub mod Typed
