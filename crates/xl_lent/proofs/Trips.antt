@@ -18,8 +18,8 @@ use Rattle.xl_parts.specs.Parts.{phaseNumber, ready}
 use Rattle.xl_numbers.specs.declared.states.PhaseRead.{PhaseRead}
 use Rattle.xl_numbers.specs.declared.states.AipRead.{AipRead}
 use Rattle.xl_numbers.specs.States.{phases, phaseOf, aipNumber, aips, aipOf}
-use Rattle.xl_numbers.specs.Codes.{flag}
-use Rattle.xl_numbers.proofs.Lists.{each-within}
+use Rattle.laws.specs.Names.{flag}
+use Rattle.laws.proofs.Places.{each-within}
 use Rattle.xl_numbers.proofs.KindTrips.{wait-back}
 use Rattle.xl_numbers.proofs.StateTrips.{phase-named, aip-named}
 use Rattle.xl.specs.Rules.{fielded, keepsRules}

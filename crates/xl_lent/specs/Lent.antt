@@ -13,7 +13,8 @@ use Rattle.xl_parts.specs.Parts.{phaseNumber}
 use Rattle.xl_numbers.specs.declared.states.PhaseRead.{PhaseRead}
 use Rattle.xl_numbers.specs.declared.states.AipRead.{AipRead}
 use Rattle.xl_numbers.specs.States.{phaseOf, aipNumber, aipOf}
-use Rattle.xl_numbers.specs.Codes.{coded as numbered, flag, actionNumber}
+use Rattle.laws.specs.Names.{flag}
+use Rattle.xl_numbers.specs.Codes.{coded as numbered, actionNumber}
 use Rattle.xl_lent.specs.declared.Link.{Link}
 use Rattle.xl_lent.specs.declared.Codes.{Codes}
 
