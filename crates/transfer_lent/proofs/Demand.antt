@@ -17,12 +17,12 @@ use Rattle.send.proofs.Demand.{demand-3}
 use Rattle.transfer_lent.specs.Numbers.{phaseNumber, phaseOf}
 use Rattle.transfer_lent.specs.Lent.{shown, told}
 use Rattle.transfer_lent.specs.Face.{Call, faceOf}
-use Rattle.transfer_lent.specs.History.{zeros, run, entriesOf, history, Typed, AllTyped}
-use Rattle.transfer_lent.specs.Demand.{Unfinished, Demand3}
+use Rattle.transfer_lent.specs.History.{zeros, run, callOf, entriesOf, history, Typed, AllTyped}
+use Rattle.transfer_lent.specs.Demand.{Unfinished, DemandSeen}
 use Rattle.transfer_lent.specs.declared.State.{State}
 use Rattle.transfer_lent.specs.declared.Step.{Step}
 use Rattle.transfer_lent.proofs.Trips.{phase-back, one-answer}
-use Rattle.transfer_lent.proofs.Runs.{callOf, step-shown, run-shown, entries-shown, history-shown, typed-call, typed-calls}
+use Rattle.transfer_lent.proofs.Runs.{step-shown, run-shown, entries-shown, history-shown}
 
 pub one-phase : (p q : Phase) → phaseNumber p ≡ phaseNumber q → p ≡ q
 one-phase p q e = sym (phase-back p .1) ∙ ap phaseOf e ∙ phase-back q .1
@@ -39,7 +39,7 @@ is-over Phase.Done off = refl
 is-over Phase.Fail off = refl
 is-over Phase.End off = refl
 
-pub demand-shown : (t : Transfer) (h es : List Entry) (st : Stepped) → machine.Demand3 limit t h es st → Demand3 (shown t) h es (told st)
+pub demand-shown : (t : Transfer) (h es : List Entry) (st : Stepped) → machine.Demand3 limit t h es st → DemandSeen (shown t) h es (told st)
 demand-shown t h es st d = record {
   within = d .within;
   sure = d .sure;
@@ -56,12 +56,12 @@ demand-shown t h es st d = record {
 -- DEMAND 3, over any calls of C from all zeros, and one call more
 pub demand-seen : (cs : List Call) (c : Call) → AllTyped cs → Typed c →
     let s = run cs zeros in
-    Demand3 s (sent.frames (history cs zeros [])) (sent.frames (entriesOf c s)) (faceOf c s)
+    DemandSeen s (sent.frames (history cs zeros [])) (sent.frames (entriesOf c s)) (faceOf c s)
 demand-seen cs c typed one =
     let t = sending.run limit (map callOf cs) unstarted in
     let e : run cs zeros ≡ shown t = run-shown cs unstarted in
-    subst (λ (s : State). Demand3 s (sent.frames (history cs zeros [])) (sent.frames (entriesOf c s)) (faceOf c s)) (sym e)
-    (subst (λ (h : List (EntryOf sent.Sent)). Demand3 (shown t) (sent.frames h) (sent.frames (entriesOf c (shown t))) (faceOf c (shown t))) (sym (history-shown cs unstarted []))
-    (subst (λ (es : List (EntryOf sent.Sent)). Demand3 (shown t) (sent.frames (sent.history limit (map callOf cs) unstarted [])) (sent.frames es) (faceOf c (shown t))) (sym (entries-shown c t))
-    (subst (λ (r : Step). Demand3 (shown t) (sent.frames (sent.history limit (map callOf cs) unstarted [])) (sent.frames (sent.entriesOf limit (callOf c) t)) r) (sym (step-shown c t))
-    (demand-shown t _ _ _ (demand-3 limit (map callOf cs) (callOf c) (typed-calls cs typed) (typed-call c one))))))
+    subst (λ (s : State). DemandSeen s (sent.frames (history cs zeros [])) (sent.frames (entriesOf c s)) (faceOf c s)) (sym e)
+    (subst (λ (h : List (EntryOf sent.Sent)). DemandSeen (shown t) (sent.frames h) (sent.frames (entriesOf c (shown t))) (faceOf c (shown t))) (sym (history-shown cs unstarted []))
+    (subst (λ (es : List (EntryOf sent.Sent)). DemandSeen (shown t) (sent.frames (sent.history limit (map callOf cs) unstarted [])) (sent.frames es) (faceOf c (shown t))) (sym (entries-shown c t))
+    (subst (λ (r : Step). DemandSeen (shown t) (sent.frames (sent.history limit (map callOf cs) unstarted [])) (sent.frames (sent.entriesOf limit (callOf c) t)) r) (sym (step-shown c t))
+    (demand-shown t _ _ _ (demand-3 limit (map callOf cs) (callOf c) typed one)))))

@@ -1,14 +1,21 @@
--- FRAME answers 16 exactly if nothing refuses it, by the verdict of its causes. Assumes nothing.
-use Prim.Native.Nat.{ℕ}
-use mathlib.Core.Path.{_≡_, refl, sym, _∙_}
+-- FRAME answers 16 exactly if nothing refuses it, by the verdict of its causes, and then a byte is left to send. Assumes nothing.
+use Prim.Native.Nat.{ℕ, _<_}
+use mathlib.Core.Bool.{true, false}
+use mathlib.Core.Logic.{_↔_}
+use mathlib.Core.Path.{_≡_, sym, ap, _∙_}
 use native.Mathlib.Omega.{arith}
+use borrow.Author.Tests.{not-false, eqb-false}
+use Rattle.laws.proofs.Bools.{never}
 use Rattle.refusals.specs.Causes.{refuse}
 use Rattle.refusals.specs.Refusals.{numberOf}
-use Rattle.refusals.proofs.Causes.{Verdict, stopped, passes, verdict, through}
+use Rattle.refusals.proofs.Causes.{NoneGiven, Verdict, stopped, passes, verdict, through}
 use Rattle.refusals.proofs.Numbers.{range}
-use Rattle.transfer.specs.Steps.{limit, frameLength, frameCauses, frameStep, framed, refused}
+use Rattle.transfer.specs.Rules.{endOf, keepsRules}
+use Rattle.transfer.specs.Steps.{limit, unfinished, frameLength, frameCauses, frameStep, framed, refused}
+use Rattle.transfer.specs.History.{isRefused}
 use Rattle.transfer.specs.declared.Transfer.{Transfer}
 use Rattle.transfer.specs.declared.Stepped.{Stepped}
+use Rattle.transfer.proofs.Calls.{underway}
 use Rattle.transfer_lent.specs.Numbers.{answerNumber}
 use Rattle.transfer_lent.specs.Lent.{nextLength}
 
@@ -32,3 +39,32 @@ module _ (t : Transfer) where
       by : Verdict (frameCauses limit t) → 0 ≡ nextLength limit t
       by (stopped k h) = sym (h ℕ (λ _. 0) (frameLength t))
       by (passes clear h) = absurd (off (frame-number ∙ h ℕ numberOf 16))
+
+  pub sent-length : isRefused (frameStep limit t .answer) ≡ false → nextLength limit t ≡ frameLength t
+  unfolding nextLength frameStep
+  sent-length off = by (verdict (frameCauses limit t))
+    where
+      by : Verdict (frameCauses limit t) → nextLength limit t ≡ frameLength t
+      by (stopped k h) = absurd (never (sym off ∙ ap (λ (r : Stepped). isRefused (r .answer)) (h Stepped (refused t) (framed (frameLength t) t))))
+      by (passes clear h) = h ℕ (λ _. 0) (frameLength t)
+
+  -- a frame that goes has a byte or more
+  long : NoneGiven (frameCauses limit t) → 0 < frameLength t
+  long off =
+      let placed = underway limit t (not-false (keepsRules limit t) (off .0)) (not-false (unfinished (t .phase)) (off .1 .0)) .0 .0 in
+      let size = placed .0 .1 .1 .1 .0 in
+      let last = placed .1 .1 .1 .0 in
+      let short = eqb-false (t .read) (endOf t) (off .1 .1 .1 .0) in
+      omega arith
+
+  pub zero-exactly : (nextLength limit t ≡ 0) ↔ (isRefused (frameStep limit t .answer) ≡ true)
+  unfolding nextLength frameStep
+  zero-exactly = by (verdict (frameCauses limit t))
+    where
+      by : Verdict (frameCauses limit t) → (nextLength limit t ≡ 0) ↔ (isRefused (frameStep limit t .answer) ≡ true)
+      by (stopped k h) = (λ e. ap (λ (r : Stepped). isRefused (r .answer)) (h Stepped (refused t) (framed (frameLength t) t)), λ e. h ℕ (λ _. 0) (frameLength t))
+      by (passes clear h) =
+          let positive = long clear in (
+            λ e. let zero : frameLength t ≡ 0 = sym (h ℕ (λ _. 0) (frameLength t)) ∙ e in absurd (omega (arith, positive, zero)),
+            λ e. absurd (never (sym (ap (λ (r : Stepped). isRefused (r .answer)) (h Stepped (refused t) (framed (frameLength t) t))) ∙ e)),
+          )
