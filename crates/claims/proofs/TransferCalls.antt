@@ -3,10 +3,9 @@ use Prim.Native.Nat.{ℕ}
 use mathlib.Core.List.{List}
 use lib.ListN.{getD}
 use denote.Ref.{now}
-use Rattle.transfer_lent.specs.Face as face
-use Rattle.transfer_lent.specs.declared.State.{State}
+use Rattle.transfer_lent.specs.Face.{Call, start}
 use Rattle.sonerwal.proofs.transfer.sonerwal_transfer_start.Kinds as start-of
-use Rattle.sonerwal.proofs.transfer.sonerwal_transfer_start.Reads as start
+use Rattle.sonerwal.proofs.transfer.sonerwal_transfer_start.Reads as start-reads
 use Rattle.sonerwal.proofs.transfer.sonerwal_transfer_frame.Kinds as frame-of
 use Rattle.sonerwal.proofs.transfer.sonerwal_transfer_frame.Reads as frame
 use Rattle.sonerwal.proofs.transfer.sonerwal_transfer_ack.Kinds as ack-of
@@ -29,7 +28,7 @@ use Rattle.claims.proofs.Calls.{Outcome}
 use Rattle.claims.proofs.Named.{first3, behind3}
 
 abbrev pub Start : Type 0
-Start = Outcome 0 start-of.ps start-of.r start.Post
+Start = Outcome 0 start-of.ps start-of.r start-reads.Post
 
 abbrev pub Frame : Type 0
 Frame = Outcome 0 frame-of.ps frame-of.r frame.Post
@@ -59,18 +58,24 @@ abbrev pub Length : Type 0
 Length = Outcome 0 length-of.ps length-of.r length.Post
 
 -- START's four numbers
-abbrev pub asking : Start → face.Call
-asking c = let b = c .args .1 in let n = b .1 in let m = n .1 in let r = m .1 in face.Call.start (b .0) (n .0) (m .0) (r .0)
+abbrev pub asking : Start → Call
+asking c = let b = c .args .1 in let n = b .1 in let m = n .1 in let r = m .1 in start (b .0) (n .0) (m .0) (r .0)
 
--- what the next-frame call was given, the output as it was lent, and as it is left
+-- the next-frame call's three numbers, its data, and the output as it was lent and as it is left
+abbrev pub destination : Next → ℕ
+destination c = getD (first3 (c .args .1)) 0 0
+
+abbrev pub source : Next → ℕ
+source c = getD (first3 (c .args .1)) 1 0
+
+abbrev pub tag : Next → ℕ
+tag c = getD (first3 (c .args .1)) 2 0
+
 abbrev pub body : Next → List ℕ
 body c = now (behind3 (c .args .1) .0)
 
-abbrev pub lent : Next → List ℕ
-lent c = now (behind3 (c .args .1) .1 .0)
+abbrev pub out : Next → List ℕ
+out c = now (behind3 (c .args .1) .1 .0)
 
 abbrev pub left : Next → List ℕ
 left c = now (behind3 (c .exit .1) .1 .0)
-
-abbrev pub sending : Next → face.Call
-sending c = let ns = first3 (c .args .1) in face.Call.next (getD ns 0 0) (getD ns 1 0) (getD ns 2 0) (body c) (lent c)

@@ -6,7 +6,8 @@ use mathlib.Core.List.{List, [], _∷_, map}
 use mathlib.Core.Logic.{_⊎_, inl, inr, _↔_}
 use mathlib.Core.Path.{_≡_, refl, sym, ap, subst, _∙_}
 use native.Mathlib.Omega.{arith}
-use Rattle.laws.proofs.Bools.{clash, or-right}
+use lib.ListN.{length}
+use Rattle.laws.proofs.Bools.{impossible, clash, or-right}
 use Rattle.refusals.specs.declared.Refusal.{Refusal}
 use Rattle.transfer.specs.Rules.{unstarted, inRange, keepsRules}
 use Rattle.transfer.specs.Steps.{limit, startStep, frameStep, ackStep, nakStep, dropStep, endStep}
@@ -16,7 +17,7 @@ use Rattle.transfer.specs.declared.Answer.{Answer}
 use Rattle.transfer.specs.declared.Transfer.{Transfer}
 use Rattle.transfer.proofs.Exact.{exact}
 use Rattle.transfer.proofs.Stuck.{unstuck}
-use Rattle.send.specs.Send.{nextStep}
+use Rattle.send.specs.Send.{headOf, nextStep}
 use Rattle.send.specs.Calls as sending
 use Rattle.send.proofs.Words.{keeps, three-either}
 use Rattle.transfer_lent.specs.Numbers.{phaseNumber, answerNumber}
@@ -29,7 +30,7 @@ use Rattle.transfer_lent.specs.declared.Step.{Step}
 use Rattle.transfer_lent.proofs.Trips.{one-answer}
 use Rattle.transfer_lent.proofs.Members.{shown-formed, shown-back, formed-back}
 use Rattle.transfer_lent.proofs.Runs.{face-is, step-shown, run-shown, refusal-told}
-use Rattle.transfer_lent.proofs.Length.{zero-exactly}
+use Rattle.transfer_lent.proofs.Length.{zero-exactly, wants}
 use Rattle.transfer_lent.proofs.Demand.{is-unfinished}
 
 -- ---- C's call for one of the transfer
@@ -173,6 +174,18 @@ zero-length s = by (formed s) refl
         let told = ap isRefusal (answer-on frame s on) ∙ refusal-told (frameStep limit (stateOf s) .answer) in
         let is : lengthOf s ≡ nextLength limit (stateOf s) = ap (λ (u : Bool). cond u (nextLength limit (stateOf s)) 0) on in
         (λ e. told ∙ zero .0 (sym is ∙ e), λ e. is ∙ zero .1 (sym told ∙ e))
+
+-- a next-frame call that goes was given as much data as the length call says
+pub wants-length : (destination source tag : ℕ) (body out : List ℕ) (s : State) → isRefusal (faceOf (next destination source tag body out) s .answer) ≡ false → length body ≡ lengthOf s
+wants-length destination source tag body out s e = by (formed s) refl
+  where
+    by : (f : Bool) → formed s ≡ f → length body ≡ lengthOf s
+    by false off = impossible (sym e ∙ ap isRefusal (answer-off (next destination source tag body out) s off))
+    by true on =
+        let t = stateOf s in
+        let a = nextStep limit t (headOf t destination source tag) body out .answer in
+        wants t (headOf t destination source tag) body out (sym (refusal-told a) ∙ sym (ap isRefusal (answer-on (next destination source tag body out) s on)) ∙ e)
+        ∙ sym (ap (λ (u : Bool). cond u (nextLength limit t) 0) on)
 
 -- from every state that calls leave unfinished some calls of C reach done
 pub unstuck-seen : (s : State) → Reached s → Unfinished s → Finishes s
