@@ -18,14 +18,18 @@ use Rattle.ssp_frame.proofs.data.read_data.Kinds as read-data-of
 use Rattle.ssp_frame.proofs.data.read_data.Reads as read-data
 use Rattle.ssp_frame.proofs.data.write_data.Kinds as write-data-of
 use Rattle.ssp_frame.proofs.data.write_data.Reads as write-data
-use Rattle.sonerwal.proofs.sonerwal_open_read.Kinds as sonerwal-open-read-of
-use Rattle.sonerwal.proofs.sonerwal_open_read.Reads as sonerwal-open-read
-use Rattle.sonerwal.proofs.sonerwal_open_write.Kinds as sonerwal-open-write-of
-use Rattle.sonerwal.proofs.sonerwal_open_write.Reads as sonerwal-open-write
-use Rattle.sonerwal.proofs.sonerwal_data_read.Kinds as sonerwal-data-read-of
-use Rattle.sonerwal.proofs.sonerwal_data_read.Reads as sonerwal-data-read
-use Rattle.sonerwal.proofs.sonerwal_data_write.Kinds as sonerwal-data-write-of
-use Rattle.sonerwal.proofs.sonerwal_data_write.Reads as sonerwal-data-write
+use Rattle.sonerwal.proofs.frames.sonerwal_open_read.Kinds as sonerwal-open-read-of
+use Rattle.sonerwal.proofs.frames.sonerwal_open_read.Reads as sonerwal-open-read
+use Rattle.sonerwal.proofs.frames.sonerwal_open_write.Kinds as sonerwal-open-write-of
+use Rattle.sonerwal.proofs.frames.sonerwal_open_write.Reads as sonerwal-open-write
+use Rattle.sonerwal.proofs.frames.sonerwal_data_read.Kinds as sonerwal-data-read-of
+use Rattle.sonerwal.proofs.frames.sonerwal_data_read.Reads as sonerwal-data-read
+use Rattle.sonerwal.proofs.frames.sonerwal_data_write.Kinds as sonerwal-data-write-of
+use Rattle.sonerwal.proofs.frames.sonerwal_data_write.Reads as sonerwal-data-write
+use Rattle.sonerwal.proofs.frames.sonerwal_wait_value.Kinds as sonerwal-wait-value-of
+use Rattle.sonerwal.proofs.frames.sonerwal_wait_value.Reads as sonerwal-wait-value
+use Rattle.sonerwal.proofs.frames.sonerwal_open_higher.Kinds as sonerwal-open-higher-of
+use Rattle.sonerwal.proofs.frames.sonerwal_open_higher.Reads as sonerwal-open-higher
 use Rattle.transfer.proofs.Transfer.start.Kinds as start-of
 use Rattle.transfer.proofs.Transfer.start.Reads as start
 use Rattle.transfer.proofs.Transfer.frame.Kinds as frame-of
@@ -110,6 +114,12 @@ FaceDataRead = Outcome 7 sonerwal-data-read-of.ps sonerwal-data-read-of.r sonerw
 
 abbrev pub FaceDataWrite : Type 0
 FaceDataWrite = Outcome 2 sonerwal-data-write-of.ps sonerwal-data-write-of.r sonerwal-data-write.Post
+
+abbrev pub FaceWaitValue : Type 0
+FaceWaitValue = Outcome 0 sonerwal-wait-value-of.ps sonerwal-wait-value-of.r sonerwal-wait-value.Post
+
+abbrev pub FaceOpenHigher : Type 0
+FaceOpenHigher = Outcome 0 sonerwal-open-higher-of.ps sonerwal-open-higher-of.r sonerwal-open-higher.Post
 
 abbrev pub Start : Type 0
 Start = Outcome 0 start-of.ps start-of.r start.Post

@@ -1,10 +1,10 @@
 -- What a call from C was given and lent, and what it answers and leaves. Assumes nothing.
-use mathlib.Core.Bool.{cond}
 use mathlib.Core.Path.{_≡_}
 use mathlib.Core.List.{List}
 use Prim.Native.Nat.{ℕ}
 use denote.Ref.{RefT, now}
 use denote.Triple.Both.{Both}
+use Rattle.laws.specs.Names.{flag}
 use Rattle.refusals.specs.Refusals.{numberOf}
 use Rattle.refusals.specs.Causes.{Cause, refuse}
 use Rattle.open_frame.specs.Open.{frameOf, openBytes, readCauses as openReads, writeCauses as openWrites}
@@ -114,4 +114,4 @@ crossing awt source = open9 0 0 0 0 0 0 source 0 awt
 -- 01 OPEN.9
 -- 1 if the first of two OPENs, by AWT and source, is of higher priority, else 0
 abbrev pub openHigher : ℕ → ℕ → ℕ → ℕ → ℕ
-openHigher awt source waited peer = cond (higherThan (crossing awt source) (crossing waited peer)) 1 0
+openHigher awt source waited peer = flag (higherThan (crossing awt source) (crossing waited peer))

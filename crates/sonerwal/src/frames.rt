@@ -2,7 +2,7 @@
 // The OPEN and DATA frames over byte slices and numbers, the wait value and priority.
 ghost use mathlib.Core.Path.{_≡_};
 ghost use Rattle.open_frame.specs.Priority.{higherThan};
-ghost use Rattle.open_frame.specs.Wait.{waitOf};
+ghost use Rattle.open_frame.specs.Wait.{waitValue};
 ghost use Rattle.sonerwal.specs.Face.{open9, openLent, dataLent, dataGiven, reading, writing, OpenReads, OpenWrites, DataReads, DataWrites, crossing, openHigher};
 use open_frame::Awt;
 use open_frame::Head;
@@ -133,7 +133,7 @@ pub extern "C" fn sonerwal_data_write(
 // Elapsed microseconds as OPEN codes a wait.
 #[no_mangle]
 pub extern "C" fn sonerwal_wait_value(elapsed: u64) -> u16
-    ensures { λ r. ⌜ r ≡ waitOf elapsed ⌝ }
+    ensures { λ r. ⌜ r ≡ waitValue elapsed .0 ⌝ }
 {
     let awt = open_frame::wait_value(elapsed);
     awt.0

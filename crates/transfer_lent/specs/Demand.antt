@@ -13,7 +13,7 @@ use Rattle.transfer_lent.specs.declared.Step.{Step}
 abbrev pub Unfinished : State → Type 0
 Unfinished s = (s .phase ≡ 1) ⊎ (s .phase ≡ 2)
 
-pub record Demand3 (s : State) (h es : List Entry) (next : Step) : Type 0 where
+pub record DemandSeen (s : State) (h es : List Entry) (next : Step) : Type 0 where
   -- "the balance point lies within the request;
   pub within : (s .offset ≤ s .balance) × (s .balance ≤ s .offset + s .count)
   -- every requested byte before it was in a frame whose ACK was reported, by the history of frames and answers;

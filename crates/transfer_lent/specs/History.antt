@@ -1,16 +1,18 @@
 -- Calls from C, each lent the state that the one before it gave back, and their history: it is read from the calls, from the numbers that C sees
 -- and from the bytes that were written. Assumes nothing.
-use Prim.Native.Nat.{ℕ, _<_}
+use Prim.Native.Nat.{ℕ}
 use mathlib.Core.Bool.{Bool, cond, _&&_}
-use mathlib.Core.List.{List, [], _∷_, _++_}
+use mathlib.Core.List.{List, [], _∷_, _++_, map}
 use mathlib.Core.Logic.{_⊎_}
 use mathlib.Core.Path.{_≡_}
 use lib.Dec.{ltb}
-use lib.ListN.{length, take, drop}
+use lib.ListN.{length}
 use Rattle.transfer.specs.Calls as machine
 use Rattle.transfer.specs.History.{EntryOf, entryOf}
 use Rattle.send.specs.Send.{changingOf}
-use Rattle.send.specs.History.{Sent, written}
+use Rattle.send.specs.Calls as sending
+use Rattle.send.specs.Calls.{plain, plainOf}
+use Rattle.send.specs.History.{Sent, written, FromImage}
 use Rattle.transfer_lent.specs.Lent.{stateOf}
 use Rattle.transfer_lent.specs.Face.{Call, start, frame, ack, nak, timeout, lost, nexus, cancel, next, faceOf, bytesOf, lengthOf}
 use Rattle.transfer_lent.specs.declared.State.{State}
@@ -28,38 +30,31 @@ run (c ∷ cs) s = run cs (faceOf c s .state)
 abbrev pub isRefusal : ℕ → Bool
 isRefusal n = ltb 0 n && ltb n 11
 
--- the call of document 01; a next-frame call is a frame call that writes its frame
-abbrev pub plainOf : Call → machine.Call
-plainOf (start b n m r) = machine.Call.start b n m r
-plainOf frame = machine.Call.frame
-plainOf ack = machine.Call.ack
-plainOf nak = machine.Call.nak
-plainOf timeout = machine.Call.timeout
-plainOf lost = machine.Call.lost
-plainOf nexus = machine.Call.nexus
-plainOf cancel = machine.Call.cancel
-plainOf (next destination source tag body out) = machine.Call.frame
+-- the transfer's call
+abbrev pub callOf : Call → sending.Call
+callOf (start b n m r) = plain (machine.Call.start b n m r)
+callOf frame = plain machine.Call.frame
+callOf ack = plain machine.Call.ack
+callOf nak = plain machine.Call.nak
+callOf timeout = plain machine.Call.timeout
+callOf lost = plain machine.Call.lost
+callOf nexus = plain machine.Call.nexus
+callOf cancel = plain machine.Call.cancel
+callOf (next destination source tag body out) = sending.Call.next destination source tag body out
 
 -- the frame that the caller of FRAME writes itself: at the read offset, as long as the length call says
 abbrev pub unwritten : State → Sent
 unwritten s = record { at = s .read; len = lengthOf s; changing = changingOf (stateOf s); bytes = [] }
 
 -- what the DATA reader finds in the bytes that a next-frame call left
-abbrev pub frameBy : Call → State → Sent
-frameBy (start b n m r) s = unwritten s
-frameBy frame s = unwritten s
-frameBy ack s = unwritten s
-frameBy nak s = unwritten s
-frameBy timeout s = unwritten s
-frameBy lost s = unwritten s
-frameBy nexus s = unwritten s
-frameBy cancel s = unwritten s
-frameBy (next destination source tag body out) s = written (length body) (bytesOf destination source tag body out s)
+abbrev pub frameBy : sending.Call → State → Sent
+frameBy (plain c) s = unwritten s
+frameBy (sending.Call.next destination source tag body out) s = written (length body) (bytesOf destination source tag body out s)
 
 -- 01 READ.7: The history holds each frame with the offset in its header and its data length.
 -- a refused call adds nothing
 abbrev pub entriesOf : Call → State → List (EntryOf Sent)
-entriesOf c s = cond (isRefusal (faceOf c s .answer)) [] (entryOf (plainOf c) (frameBy c s) ∷ [])
+entriesOf c s = cond (isRefusal (faceOf c s .answer)) [] (entryOf (plainOf (callOf c)) (frameBy (callOf c) s) ∷ [])
 
 -- the history that some calls of s add to h, its latest entry first
 abbrev pub history : List Call → State → List (EntryOf Sent) → List (EntryOf Sent)
@@ -68,35 +63,15 @@ history (c ∷ cs) s h = history cs (faceOf c s .state) (entriesOf c s ++ h)
 
 -- C's tag has two bytes
 abbrev pub Typed : Call → Type 0
-Typed (start b n m r) = Unit {0}
-Typed frame = Unit {0}
-Typed ack = Unit {0}
-Typed nak = Unit {0}
-Typed timeout = Unit {0}
-Typed lost = Unit {0}
-Typed nexus = Unit {0}
-Typed cancel = Unit {0}
-Typed (next destination source tag body out) = tag < 65536
+Typed c = sending.Typed (callOf c)
 
 abbrev pub AllTyped : List Call → Type 0
-AllTyped [] = Unit {0}
-AllTyped (c ∷ cs) = Typed c × AllTyped cs
+AllTyped cs = sending.AllTyped (map callOf cs)
 
 -- each next-frame call was given the bytes of one image at its offset, and no frame goes without its bytes
-abbrev pub FromImage : List ℕ → Call → State → Type 0
-FromImage image (start b n m r) s = Unit {0}
-FromImage image frame s = ⊥
-FromImage image ack s = Unit {0}
-FromImage image nak s = Unit {0}
-FromImage image timeout s = Unit {0}
-FromImage image lost s = Unit {0}
-FromImage image nexus s = Unit {0}
-FromImage image cancel s = Unit {0}
-FromImage image (next destination source tag body out) s = body ≡ take (length body) (drop (s .read) image)
-
 abbrev pub AllFromImage : List ℕ → List Call → State → Type 0
 AllFromImage image [] s = Unit {0}
-AllFromImage image (c ∷ cs) s = FromImage image c s × AllFromImage image cs (faceOf c s .state)
+AllFromImage image (c ∷ cs) s = FromImage image (callOf c) (stateOf s) × AllFromImage image cs (faceOf c s .state)
 
 -- a START of all zeros is taken, and the calls after it leave s
 pub record Left (s : State) : Type 0 where

@@ -23,14 +23,20 @@ use Rattle.ssp_frame.proofs.data.read_data.Kinds as read-data-of
 use Rattle.ssp_frame.proofs.data.read_data.Reads as read-data
 use Rattle.ssp_frame.proofs.data.write_data.Kinds as write-data-of
 use Rattle.ssp_frame.proofs.data.write_data.Reads as write-data
-use Rattle.sonerwal.proofs.sonerwal_open_read.Kinds as sonerwal-open-read-of
-use Rattle.sonerwal.proofs.sonerwal_open_read.Reads as sonerwal-open-read
-use Rattle.sonerwal.proofs.sonerwal_open_write.Kinds as sonerwal-open-write-of
-use Rattle.sonerwal.proofs.sonerwal_open_write.Reads as sonerwal-open-write
-use Rattle.sonerwal.proofs.sonerwal_data_read.Kinds as sonerwal-data-read-of
-use Rattle.sonerwal.proofs.sonerwal_data_read.Reads as sonerwal-data-read
-use Rattle.sonerwal.proofs.sonerwal_data_write.Kinds as sonerwal-data-write-of
-use Rattle.sonerwal.proofs.sonerwal_data_write.Reads as sonerwal-data-write
+use Rattle.sonerwal.proofs.frames.sonerwal_open_read.Kinds as sonerwal-open-read-of
+use Rattle.sonerwal.proofs.frames.sonerwal_open_read.Reads as sonerwal-open-read
+use Rattle.sonerwal.proofs.frames.sonerwal_open_write.Kinds as sonerwal-open-write-of
+use Rattle.sonerwal.proofs.frames.sonerwal_open_write.Reads as sonerwal-open-write
+use Rattle.sonerwal.proofs.frames.sonerwal_data_read.Kinds as sonerwal-data-read-of
+use Rattle.sonerwal.proofs.frames.sonerwal_data_read.Reads as sonerwal-data-read
+use Rattle.sonerwal.proofs.frames.sonerwal_data_write.Kinds as sonerwal-data-write-of
+use Rattle.sonerwal.proofs.frames.sonerwal_data_write.Reads as sonerwal-data-write
+use Rattle.sonerwal.proofs.sonerwal_version.Kinds as sonerwal-version-of
+use Rattle.sonerwal.proofs.sonerwal_version.Reads as sonerwal-version
+use Rattle.sonerwal.proofs.frames.sonerwal_wait_value.Kinds as sonerwal-wait-value-of
+use Rattle.sonerwal.proofs.frames.sonerwal_wait_value.Reads as sonerwal-wait-value
+use Rattle.sonerwal.proofs.frames.sonerwal_open_higher.Kinds as sonerwal-open-higher-of
+use Rattle.sonerwal.proofs.frames.sonerwal_open_higher.Reads as sonerwal-open-higher
 use Rattle.claims.proofs.Calls.{Anything}
 
 pub record Frames : Type 2 where
@@ -50,6 +56,9 @@ pub record Frames : Type 2 where
   pub sonerwal-open-write : Anything 1 sonerwal-open-write-of.ps sonerwal-open-write.Pre
   pub sonerwal-data-read : Anything 7 sonerwal-data-read-of.ps sonerwal-data-read.Pre
   pub sonerwal-data-write : Anything 2 sonerwal-data-write-of.ps sonerwal-data-write.Pre
+  pub sonerwal-version : Anything 0 sonerwal-version-of.ps sonerwal-version.Pre
+  pub sonerwal-wait-value : Anything 0 sonerwal-wait-value-of.ps sonerwal-wait-value.Pre
+  pub sonerwal-open-higher : Anything 0 sonerwal-open-higher-of.ps sonerwal-open-higher.Pre
 
 pub frames : Frames
 frames = record {
@@ -69,4 +78,7 @@ frames = record {
   sonerwal-open-write = λ κs a. tt;
   sonerwal-data-read = λ κs a. tt;
   sonerwal-data-write = λ κs a. tt;
+  sonerwal-version = λ κs a. tt;
+  sonerwal-wait-value = λ κs a. tt;
+  sonerwal-open-higher = λ κs a. tt;
 }

@@ -33,14 +33,20 @@ use Rattle.ssp_frame.proofs.data.read_data.Kinds as read-data-of
 use Rattle.ssp_frame.proofs.data.read_data.Reads as read-data
 use Rattle.ssp_frame.proofs.data.write_data.Kinds as write-data-of
 use Rattle.ssp_frame.proofs.data.write_data.Reads as write-data
-use Rattle.sonerwal.proofs.sonerwal_open_read.Kinds as sonerwal-open-read-of
-use Rattle.sonerwal.proofs.sonerwal_open_read.Reads as sonerwal-open-read
-use Rattle.sonerwal.proofs.sonerwal_open_write.Kinds as sonerwal-open-write-of
-use Rattle.sonerwal.proofs.sonerwal_open_write.Reads as sonerwal-open-write
-use Rattle.sonerwal.proofs.sonerwal_data_read.Kinds as sonerwal-data-read-of
-use Rattle.sonerwal.proofs.sonerwal_data_read.Reads as sonerwal-data-read
-use Rattle.sonerwal.proofs.sonerwal_data_write.Kinds as sonerwal-data-write-of
-use Rattle.sonerwal.proofs.sonerwal_data_write.Reads as sonerwal-data-write
+use Rattle.sonerwal.proofs.frames.sonerwal_open_read.Kinds as sonerwal-open-read-of
+use Rattle.sonerwal.proofs.frames.sonerwal_open_read.Reads as sonerwal-open-read
+use Rattle.sonerwal.proofs.frames.sonerwal_open_write.Kinds as sonerwal-open-write-of
+use Rattle.sonerwal.proofs.frames.sonerwal_open_write.Reads as sonerwal-open-write
+use Rattle.sonerwal.proofs.frames.sonerwal_data_read.Kinds as sonerwal-data-read-of
+use Rattle.sonerwal.proofs.frames.sonerwal_data_read.Reads as sonerwal-data-read
+use Rattle.sonerwal.proofs.frames.sonerwal_data_write.Kinds as sonerwal-data-write-of
+use Rattle.sonerwal.proofs.frames.sonerwal_data_write.Reads as sonerwal-data-write
+use Rattle.sonerwal.proofs.sonerwal_version.Kinds as sonerwal-version-of
+use Rattle.sonerwal.proofs.sonerwal_version.Reads as sonerwal-version
+use Rattle.sonerwal.proofs.frames.sonerwal_wait_value.Kinds as sonerwal-wait-value-of
+use Rattle.sonerwal.proofs.frames.sonerwal_wait_value.Reads as sonerwal-wait-value
+use Rattle.sonerwal.proofs.frames.sonerwal_open_higher.Kinds as sonerwal-open-higher-of
+use Rattle.sonerwal.proofs.frames.sonerwal_open_higher.Reads as sonerwal-open-higher
 use Rattle.claims.proofs.Calls.{One, none}
 use Rattle.claims.proofs.Named.{behind3, behind9, first6, first9, open-of, data-of}
 
@@ -82,6 +88,9 @@ pub record Frames : Type 2 where
   pub sonerwal-open-write : One 1 sonerwal-open-write-of.ps sonerwal-open-write-of.r sonerwal-open-write-left sonerwal-open-write.Post
   pub sonerwal-data-read : One 7 sonerwal-data-read-of.ps sonerwal-data-read-of.r sonerwal-data-read-left sonerwal-data-read.Post
   pub sonerwal-data-write : One 2 sonerwal-data-write-of.ps sonerwal-data-write-of.r sonerwal-data-write-left sonerwal-data-write.Post
+  pub sonerwal-version : One 0 sonerwal-version-of.ps sonerwal-version-of.r (none 0 sonerwal-version-of.ps sonerwal-version-of.r) sonerwal-version.Post
+  pub sonerwal-wait-value : One 0 sonerwal-wait-value-of.ps sonerwal-wait-value-of.r (none 0 sonerwal-wait-value-of.ps sonerwal-wait-value-of.r) sonerwal-wait-value.Post
+  pub sonerwal-open-higher : One 0 sonerwal-open-higher-of.ps sonerwal-open-higher-of.r (none 0 sonerwal-open-higher-of.ps sonerwal-open-higher-of.r) sonerwal-open-higher.Post
 
 pub frames : Frames
 frames = record {
@@ -101,4 +110,7 @@ frames = record {
   sonerwal-open-write = λ κs a x y s t p q. (p .answer ∙ sym (q .answer), p .leaves ∙ sym (q .leaves));
   sonerwal-data-read = λ κs a x y s t p q. (p .answer ∙ sym (q .answer), p .leaves ∙ sym (q .leaves));
   sonerwal-data-write = λ κs a x y s t p q. (p .answer ∙ sym (q .answer), p .leaves ∙ sym (q .leaves));
+  sonerwal-version = λ κs a x y s t p q. (p ∙ sym q, refl);
+  sonerwal-wait-value = λ κs a x y s t p q. (p ∙ sym q, refl);
+  sonerwal-open-higher = λ κs a x y s t p q. (p ∙ sym q, refl);
 }

@@ -28,10 +28,10 @@ listed : (c : tie.After-f) → Listed (c .f .given .0 .0 .head)
 listed c = let read = c .before .before in read-listed (now (read .before .before .args .frame)) (c .f .given .0 .0) (sym (read .read-open .ensures) ∙ c .f .given .1)
 
 cast-features : tie.Need-cast-features
-cast-features c = let l = listed (c .before .before) in omega (arith, l .features)
+cast-features c = let l = listed (c .before .before) in omega (arith, l .features, l .most)
 
 cast-rate : tie.Need-cast-rate
-cast-rate c = let l = listed (c .before .before .before) in omega (arith, l .most)
+cast-rate c = let l = listed (c .before .before .before) in omega (arith, l .features, l .most)
 
 enum-known-k : tie.Need-enum-known-k
 enum-known-k c = search needs
