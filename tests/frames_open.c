@@ -248,7 +248,7 @@ static void expect(struct test *test, uint64_t found, uint64_t expected)
 	test->failed += found != expected;
 }
 
-/* 01 OPEN.7 01 EXAMPLE.1: around each thousand, and anything */
+/* 01 OPEN.7 01 EXAMPLE.1 */
 static void wait_values(struct test *test)
 {
 	static const uint64_t waits[][2] = {{32767, 32767},    {32768, 32768},    {33767, 32768},     {33768, 32769},

@@ -71,16 +71,6 @@ use Rattle.sonerwal.proofs.transfer.sonerwal_transfer_next.Kinds as c-next-of
 use Rattle.sonerwal.proofs.transfer.sonerwal_transfer_next.Reads as c-next
 use Rattle.sonerwal.proofs.transfer.sonerwal_transfer_length.Kinds as c-length-of
 use Rattle.sonerwal.proofs.transfer.sonerwal_transfer_length.Reads as c-length
-use Rattle.bench_steps.proofs.bench_frames.Kinds as bench-frames-of
-use Rattle.bench_steps.proofs.bench_frames.Reads as bench-frames
-use Rattle.bench_steps.proofs.bench_acks.Kinds as bench-acks-of
-use Rattle.bench_steps.proofs.bench_acks.Reads as bench-acks
-use Rattle.bench_steps.proofs.bench_turns.Kinds as bench-turns-of
-use Rattle.bench_steps.proofs.bench_turns.Reads as bench-turns
-use Rattle.bench_steps.proofs.bench_next.Kinds as bench-next-of
-use Rattle.bench_steps.proofs.bench_next.Reads as bench-next
-use Rattle.bench_steps.proofs.bench_calls.Kinds as bench-calls-of
-use Rattle.bench_steps.proofs.bench_calls.Reads as bench-calls
 use Rattle.claims.proofs.Calls.{Anything}
 
 pub record Transfer : Type 2 where
@@ -120,11 +110,6 @@ pub record Transfer : Type 2 where
   pub c-cancel : Anything 0 c-cancel-of.ps c-cancel.Pre
   pub c-next : Anything 2 c-next-of.ps c-next.Pre
   pub c-length : Anything 0 c-length-of.ps c-length.Pre
-  pub bench-frames : Anything 0 bench-frames-of.ps bench-frames.Pre
-  pub bench-acks : Anything 0 bench-acks-of.ps bench-acks.Pre
-  pub bench-turns : Anything 0 bench-turns-of.ps bench-turns.Pre
-  pub bench-next : Anything 2 bench-next-of.ps bench-next.Pre
-  pub bench-calls : Anything 3 bench-calls-of.ps bench-calls.Pre
 
 pub transfer : Transfer
 transfer = record {
@@ -164,9 +149,4 @@ transfer = record {
   c-cancel = λ κs a. tt;
   c-next = λ κs a. tt;
   c-length = λ κs a. tt;
-  bench-frames = λ κs a. tt;
-  bench-acks = λ κs a. tt;
-  bench-turns = λ κs a. tt;
-  bench-next = λ κs a. tt;
-  bench-calls = λ κs a. tt;
 }

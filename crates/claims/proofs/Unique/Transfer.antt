@@ -78,18 +78,8 @@ use Rattle.sonerwal.proofs.transfer.sonerwal_transfer_next.Kinds as c-next-of
 use Rattle.sonerwal.proofs.transfer.sonerwal_transfer_next.Reads as c-next
 use Rattle.sonerwal.proofs.transfer.sonerwal_transfer_length.Kinds as c-length-of
 use Rattle.sonerwal.proofs.transfer.sonerwal_transfer_length.Reads as c-length
-use Rattle.bench_steps.proofs.bench_frames.Kinds as bench-frames-of
-use Rattle.bench_steps.proofs.bench_frames.Reads as bench-frames
-use Rattle.bench_steps.proofs.bench_acks.Kinds as bench-acks-of
-use Rattle.bench_steps.proofs.bench_acks.Reads as bench-acks
-use Rattle.bench_steps.proofs.bench_turns.Kinds as bench-turns-of
-use Rattle.bench_steps.proofs.bench_turns.Reads as bench-turns
-use Rattle.bench_steps.proofs.bench_next.Kinds as bench-next-of
-use Rattle.bench_steps.proofs.bench_next.Reads as bench-next
-use Rattle.bench_steps.proofs.bench_calls.Kinds as bench-calls-of
-use Rattle.bench_steps.proofs.bench_calls.Reads as bench-calls
 use Rattle.claims.proofs.Calls.{One, none}
-use Rattle.claims.proofs.Named.{behind3, behind9}
+use Rattle.claims.proofs.Named.{behind3}
 
 abbrev next-frame-left : (κs : Lifetimes.Lfts 2) → Clauses.AtExit (kinds.endedOf 2 next-frame-of.ps next-frame-of.r) κs → List ℕ
 next-frame-left κs s = now (behind3 (s .1) .1 .0)
@@ -99,12 +89,6 @@ lent-next-left κs s = now (behind3 (s .1) .1 .0)
 
 abbrev c-next-left : (κs : Lifetimes.Lfts 2) → Clauses.AtExit (kinds.endedOf 2 c-next-of.ps c-next-of.r) κs → List ℕ
 c-next-left κs s = now (behind3 (s .1) .1 .0)
-
-abbrev bench-next-left : (κs : Lifetimes.Lfts 2) → Clauses.AtExit (kinds.endedOf 2 bench-next-of.ps bench-next-of.r) κs → List ℕ
-bench-next-left κs s = now (behind9 s .0)
-
-abbrev bench-calls-left : (κs : Lifetimes.Lfts 3) → Clauses.AtExit (kinds.endedOf 3 bench-calls-of.ps bench-calls-of.r) κs → List ℕ
-bench-calls-left κs s = now (behind9 s .0)
 
 pub record Transfer : Type 2 where
   pub unstarted : One 0 unstarted-of.ps unstarted-of.r (none 0 unstarted-of.ps unstarted-of.r) unstarted.Post
@@ -143,11 +127,6 @@ pub record Transfer : Type 2 where
   pub c-cancel : One 0 c-cancel-of.ps c-cancel-of.r (none 0 c-cancel-of.ps c-cancel-of.r) c-cancel.Post
   pub c-next : One 2 c-next-of.ps c-next-of.r c-next-left c-next.Post
   pub c-length : One 0 c-length-of.ps c-length-of.r (none 0 c-length-of.ps c-length-of.r) c-length.Post
-  pub bench-frames : One 0 bench-frames-of.ps bench-frames-of.r (none 0 bench-frames-of.ps bench-frames-of.r) bench-frames.Post
-  pub bench-acks : One 0 bench-acks-of.ps bench-acks-of.r (none 0 bench-acks-of.ps bench-acks-of.r) bench-acks.Post
-  pub bench-turns : One 0 bench-turns-of.ps bench-turns-of.r (none 0 bench-turns-of.ps bench-turns-of.r) bench-turns.Post
-  pub bench-next : One 2 bench-next-of.ps bench-next-of.r bench-next-left bench-next.Post
-  pub bench-calls : One 3 bench-calls-of.ps bench-calls-of.r bench-calls-left bench-calls.Post
 
 pub transfer : Transfer
 transfer = record {
@@ -187,9 +166,4 @@ transfer = record {
   c-cancel = λ κs a x y s t p q. (p ∙ sym q, refl);
   c-next = λ κs a x y s t p q. (p .step ∙ sym (q .step), p .bytes ∙ sym (q .bytes));
   c-length = λ κs a x y s t p q. (p ∙ sym q, refl);
-  bench-frames = λ κs a x y s t p q. (p ∙ sym q, refl);
-  bench-acks = λ κs a x y s t p q. (p ∙ sym q, refl);
-  bench-turns = λ κs a x y s t p q. (p ∙ sym q, refl);
-  bench-next = λ κs a x y s t p q. (p .answer ∙ sym (q .answer), p .bytes ∙ sym (q .bytes));
-  bench-calls = λ κs a x y s t p q. (p .answer ∙ sym (q .answer), p .bytes ∙ sym (q .bytes));
 }
