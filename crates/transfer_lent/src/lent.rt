@@ -74,7 +74,8 @@ pub(crate) fn told(r: Stepped) -> Step
     Step { state, answer }
 }
 
-// 01 REFUSAL.3: a lent state breaks its rules; it comes back to the last member.
+// 01 REFUSAL.3
+// Numbers that name no transfer come back to the last member.
 pub(crate) fn malformed(s: State) -> Step
     ensures { λ r. ⌜ r ≡ malformed s ⌝ }
 {
