@@ -6,6 +6,7 @@ ghost use Rattle.transfer_lent.specs.Lent.{formed, stateOf, shown, told,
 use crate::State;
 use crate::Step;
 use crate::numbers;
+use refusals::Refusal;
 use transfer::Stepped;
 use transfer::Transfer;
 
@@ -79,10 +80,8 @@ pub(crate) fn told(r: Stepped) -> Step
 pub(crate) fn malformed(s: State) -> Step
     ensures { λ r. ⌜ r ≡ malformed s ⌝ }
 {
-    Step {
-        state: s,
-        answer: 3,
-    }
+    let answer = refusals::number(Refusal::Rules);
+    Step { state: s, answer }
 }
 
 // How long the next frame is, 0 where FRAME is refused.
