@@ -1,5 +1,5 @@
 /*
- * The four calls of libsonerwal.a against plain C, in nanoseconds for one call.
+ * The four frame calls of libsonerwal.a against plain C, in nanoseconds for one call.
  *
  * Usage: frames [--strict]        --strict: exit 1 if a ratio is above the goal
  *

@@ -1,6 +1,6 @@
 /*
  * The two calls of libsonerwal.a for OPEN frames against the plain coder: more than a million good and damaged calls,
- * judged as frame_cases.h says.
+ * judged as frame_cases.h says. And the wait value and the priority of an OPEN.
  *
  * Usage: frames_open [SEED]
  *
@@ -73,9 +73,9 @@ static bool open_read_case(struct test *test, size_t len)
 		seen[OPEN_UNCARRIED] = uncarried_not_zero(frame_of(&lent_plain));
 	}
 	uint8_t answer = sonerwal_open_read(frame_of(&lent_ours), len, &n[OPEN_INITIATOR].at.u8, &n[OPEN_PROTOCOL].at.u8,
-	                               &n[OPEN_FEATURES].at.u8, &n[OPEN_RATE].at.u8, &n[OPEN_TAG].at.u16,
-	                               &n[OPEN_DESTINATION].at.u64, &n[OPEN_SOURCE].at.u64, &n[OPEN_PBC].at.u8,
-	                               &n[OPEN_AWT].at.u16);
+	                                    &n[OPEN_FEATURES].at.u8, &n[OPEN_RATE].at.u8, &n[OPEN_TAG].at.u16,
+	                                    &n[OPEN_DESTINATION].at.u64, &n[OPEN_SOURCE].at.u64, &n[OPEN_PBC].at.u8,
+	                                    &n[OPEN_AWT].at.u16);
 	judge(test, &open_read, answer, faults, seen);
 	return faults == 0;
 }
@@ -85,10 +85,9 @@ static void open_write_case(struct test *test, const uint64_t v[OPEN_FIELDS], si
 	lend(len, 0);
 	copy_for_plain();
 	plain_faults faults = plain_open_write(v, frame_of(&lent_plain), len);
-	uint8_t answer = sonerwal_open_write((uint8_t)v[OPEN_INITIATOR], (uint8_t)v[OPEN_PROTOCOL],
-	                                (uint8_t)v[OPEN_FEATURES], (uint8_t)v[OPEN_RATE], (uint16_t)v[OPEN_TAG],
-	                                v[OPEN_DESTINATION], v[OPEN_SOURCE], (uint8_t)v[OPEN_PBC],
-	                                (uint16_t)v[OPEN_AWT], frame_of(&lent_ours), len);
+	uint8_t answer = sonerwal_open_write((uint8_t)v[OPEN_INITIATOR], (uint8_t)v[OPEN_PROTOCOL], (uint8_t)v[OPEN_FEATURES],
+	                                     (uint8_t)v[OPEN_RATE], (uint16_t)v[OPEN_TAG], v[OPEN_DESTINATION], v[OPEN_SOURCE],
+	                                     (uint8_t)v[OPEN_PBC], (uint16_t)v[OPEN_AWT], frame_of(&lent_ours), len);
 	judge(test, &open_write, answer, faults, v);
 }
 
@@ -241,6 +240,42 @@ static void open_write_mixed(struct test *test)
 	}
 }
 
+/* ---- Waits and priorities */
+
+static void expect(struct test *test, uint64_t found, uint64_t expected)
+{
+	test->cases++;
+	test->failed += found != expected;
+}
+
+/* 01 OPEN.7 01 EXAMPLE.1 */
+static void wait_values(struct test *test)
+{
+	static const uint64_t waits[][2] = {{32767, 32767},    {32768, 32768},    {33767, 32768},     {33768, 32769},
+	                                    {32799767, 65534}, {32799768, 65535}, {UINT64_MAX, 65535}};
+	for (size_t i = 0; i < sizeof waits / sizeof *waits; i++) {
+		expect(test, sonerwal_wait_value(waits[i][0]), waits[i][1]);
+	}
+	for (uint64_t k = 0; k < 32768; k++) {
+		expect(test, sonerwal_wait_value(k), k);
+		expect(test, sonerwal_wait_value(32768 + 1000 * k), 32768 + k);
+		expect(test, sonerwal_wait_value(32768 + 1000 * k + 999), 32768 + k);
+		expect(test, sonerwal_wait_value(32768 + 1000 * 32767 + noise() / 2), 65535);
+	}
+}
+
+/* 01 OPEN.9 01 EXAMPLE.2 01 EXAMPLE.3 */
+static void priorities(struct test *test)
+{
+	expect(test, sonerwal_open_higher(2, 1, 1, 2), 1);
+	expect(test, sonerwal_open_higher(2, 2, 2, 2), 0);
+	for (long i = 0; i < OPENS / 4; i++) {
+		uint16_t awt = (uint16_t)noise(), other = noise_below(2) ? awt : (uint16_t)noise();
+		uint64_t source = noise(), peer = noise_below(4) ? noise() : source;
+		expect(test, sonerwal_open_higher(awt, source, other, peer), awt > other || (awt == other && source > peer));
+	}
+}
+
 /* ---- The table */
 
 /* 01 DATA.5: C firmware of the board calls the frame readers and writers. */
@@ -251,6 +286,8 @@ static struct test tests[] = {
 	{.name = "OPEN write, every value", .run = open_write_sweep},
 	{.name = "OPEN write, every length", .run = open_write_lengths},
 	{.name = "OPEN write, mixed", .run = open_write_mixed},
+	{.name = "wait value", .run = wait_values},
+	{.name = "priority", .run = priorities},
 };
 
 int main(int argc, char **argv)

@@ -235,37 +235,9 @@ static void write_data(const struct data_vector *vector)
 	check(memcmp(frame, expected, sizeof frame) == 0, "DATA write, %s: bytes", vector->member);
 }
 
-/* ---- The header's own names for document 01's numbers */
-
-static const struct {
-	const char *name;
-	unsigned value, number;
-} names[] = {
-	{"SONERWAL_OK", SONERWAL_OK, 0},
-	{"SONERWAL_REFUSED_LENGTH", SONERWAL_REFUSED_LENGTH, 1},
-	{"SONERWAL_REFUSED_UNLISTED", SONERWAL_REFUSED_UNLISTED, 2},
-	{"SONERWAL_OPEN_SIZE", SONERWAL_OPEN_SIZE, 28},
-	{"SONERWAL_PROTOCOL_SMP", SONERWAL_PROTOCOL_SMP, 0},
-	{"SONERWAL_PROTOCOL_SSP", SONERWAL_PROTOCOL_SSP, 1},
-	{"SONERWAL_PROTOCOL_STP", SONERWAL_PROTOCOL_STP, 2},
-	{"SONERWAL_RATE_1_5_GBPS", SONERWAL_RATE_1_5_GBPS, 8},
-	{"SONERWAL_RATE_3_GBPS", SONERWAL_RATE_3_GBPS, 9},
-	{"SONERWAL_RATE_6_GBPS", SONERWAL_RATE_6_GBPS, 10},
-	{"SONERWAL_FEATURES_MAX", SONERWAL_FEATURES_MAX, 15},
-	{"SONERWAL_DATA_HEADER_SIZE", SONERWAL_DATA_HEADER_SIZE, 24},
-	{"SONERWAL_DATA_BODY_MIN", SONERWAL_DATA_BODY_MIN, 1},
-	{"SONERWAL_DATA_BODY_MAX", SONERWAL_DATA_BODY_MAX, 1024},
-	{"SONERWAL_DATA_SIZE_MIN", SONERWAL_DATA_SIZE_MIN, 28},
-	{"SONERWAL_DATA_SIZE_MAX", SONERWAL_DATA_SIZE_MAX, 1048},
-	{"SONERWAL_HASHED_ADDRESS_MAX", SONERWAL_HASHED_ADDRESS_MAX, 16777215},
-};
-
 /* 01 PROMISE.5 */
 int main(void)
 {
-	for (size_t i = 0; i < sizeof names / sizeof *names; i++) {
-		check(names[i].value == names[i].number, "%s is %u", names[i].name, names[i].value);
-	}
 	for (size_t i = 0; i < sizeof opens / sizeof *opens; i++) {
 		read_open(&opens[i]);
 		if (opens[i].direction == BOTH) {

@@ -1,18 +1,19 @@
 /*
- * One input is one of the four calls of libsonerwal.a: its first byte says which, the rest are its fields and bytes. The plain
- * coder makes the same call on a copy, and the answer and every lent byte and number must be the same; what was written
- * must be read back.
+ * One input is one of the four frame calls of libsonerwal.a, or calls on a transfer or a link (machines.c): its first byte says which, the
+ * rest are its fields and bytes. The plain coder makes the same call on a copy, and the answer and every lent byte and number must be
+ * the same; what was written must be read back.
  */
 #include "../plain.h"
+#include "input.h"
 #include "sonerwal.h"
 
 #include <stdio.h>
 #include <stdlib.h>
 #include <string.h>
 
-enum { ROOM = 1200, NOISE = 0xA5 };
+/* ---- The input */
 
-static void require(int good, const char *what)
+void require(int good, const char *what)
 {
 	if (!good) {
 		fprintf(stderr, "fuzz: %s\n", what);
@@ -20,19 +21,20 @@ static void require(int good, const char *what)
 	}
 }
 
-/* ---- The input, taken byte by byte; past its end come zeros */
-
-struct input {
-	const uint8_t *at, *end;
-};
-
-static uint64_t number(struct input *in, unsigned bytes)
+uint64_t number(struct input *in, unsigned bytes)
 {
 	uint64_t n = 0;
 	while (bytes--) {
 		n = n << 8 | (in->at < in->end ? *in->at++ : 0);
 	}
 	return n;
+}
+
+void fill(struct input *in, void *to, size_t len)
+{
+	for (size_t i = 0; i < len; i++) {
+		((uint8_t *)to)[i] = (uint8_t)number(in, 1);
+	}
 }
 
 /* The rest of the input, or as much as there is room for. */
@@ -168,8 +170,8 @@ int LLVMFuzzerTestOneInput(const uint8_t *bytes, size_t len);
 
 int LLVMFuzzerTestOneInput(const uint8_t *bytes, size_t len)
 {
-	static void (*const calls[])(struct input *) = {try_open_read, try_open_write, try_data_read, try_data_write};
+	static void (*const calls[])(struct input *) = {try_open_read, try_open_write, try_data_read, try_data_write, try_transfer, try_link};
 	struct input in = {bytes, bytes + len};
-	calls[number(&in, 1) % 4](&in);
+	calls[number(&in, 1) % (sizeof calls / sizeof *calls)](&in);
 	return 0;
 }

@@ -33,3 +33,6 @@ pub flag-at : (n : ℕ) → n < 2 → n ≡ flag (eqb n 1)
 flag-at zero l = refl
 flag-at (suc zero) l = refl
 flag-at (suc (suc n)) l = absurd (omega arith)
+
+pub flag-named : Named (λ (n : ℕ) (t : Bool). (n < 2) × (eqb n 1 ≡ t)) flag
+flag-named n t = (λ h. flag-at n (h .0) ∙ ap flag (h .1), λ e. rw e (flag-back t))

@@ -4,3 +4,6 @@ pub mod Typed
 pub mod Members
 mod Length
 pub mod Seen
+pub mod Runs
+pub mod Demand
+pub mod Reach

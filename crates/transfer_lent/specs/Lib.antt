@@ -2,4 +2,6 @@
 pub mod Numbers
 pub mod Lent
 pub mod Face
+pub mod History
+pub mod Demand
 pub mod Typed
