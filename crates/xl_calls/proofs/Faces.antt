@@ -3,7 +3,7 @@
 use Prim.Native.Nat.{ℕ}
 use mathlib.Core.Bool.{Bool, true, false, not, cond, _&&_}
 use mathlib.Core.List.{List, [], _∷_, _++_}
-use mathlib.Core.Path.{_≡_, refl, sym, ap, subst⁻¹, _∙_}
+use mathlib.Core.Path.{_≡_, refl, sym, ap, subst, subst⁻¹, _∙_}
 use native.Mathlib.Omega.{arith}
 use lib.Dec.{eqb}
 use lib.ListN.{length}
@@ -78,6 +78,12 @@ told-keeps l ok =
 
 -- ---- C's calls are the machine's
 
+no-call : (m : Call) → [] ≡ m ∷ [] → ⊥
+no-call m e = let z : _≡_ {A = ℕ} 0 1 = cc in omega arith
+
+same-call : (c m : Call) → c ∷ [] ≡ m ∷ [] → c ≡ m
+same-call c m e = cc
+
 module _ (l : Link) (ok : formed l ≡ true) where
   pub event-told : (c : Code) (o : Open) (e : Event) → eventOf c ≡ EventRead.Named e → linkEvent l c o ≡ told l (callOf (event e (frameOf o)) (stateOf l))
   unfolding linkEvent callOf
@@ -104,6 +110,23 @@ module _ (l : Link) (ok : formed l ≡ true) where
   -- the link that C gets says the state that the machine's calls leave
   call-says : (c : FaceCall) → stateOf (faceOf c l .state) ≡ run (makes c) (stateOf l)
   call-says = by-face (λ (cs : List Call) (r : Step). stateOf (r .state) ≡ run cs (stateOf l)) (λ k. refl) (λ c. told-sees l c .state)
+
+  -- a call that makes one of the machine's shows C what the machine answers
+  pub call-sees : (c : FaceCall) (m : Call) → makes c ≡ m ∷ [] → Sees (callOf m (stateOf l)) (faceOf c l)
+  call-sees =
+      by-face (λ (cs : List Call) (r : Step). (m : Call) → cs ≡ m ∷ [] → Sees (callOf m (stateOf l)) r)
+      (λ k m e. absurd (no-call m e))
+      (λ c m e. subst (λ (x : Call). Sees (callOf x (stateOf l)) (told l (callOf c (stateOf l)))) (same-call c m e) (told-sees l c))
+
+-- one that makes none is refused, whatever is lent
+pub none-made : (l : Link) (c : FaceCall) → makes c ≡ [] → faceOf c l ≡ refused l Refusal.Unlisted
+unfolding linkEvent
+none-made l (frame b) e = absurd (no-call (bytes b) (sym e))
+none-made l (numbers c o) e = by (eventOf c) e
+  where
+    by : (r : EventRead) → named r o ≡ [] → heard l r o ≡ refused l Refusal.Unlisted
+    by (EventRead.Named e) h = absurd (no-call (event e (frameOf o)) (sym h))
+    by EventRead.Unnamed h = refl
 
 pub keeps-call : (l : Link) → keepsLent l ≡ true → (c : FaceCall) → keepsLent (faceOf c l .state) ≡ true
 keeps-call l ok = by-face l (lent-formed l ok) (λ (cs : List Call) (r : Step). keepsLent (r .state) ≡ true) (λ k. ok) (told-keeps l ok)
@@ -134,6 +157,12 @@ face-shown cs =
     let l = faceRun cs zeros in
     let ok = face-keeps cs zeros zeros-keeps in
     sym (lent-back l (lent-formed l ok) (narrow (stateOf l) (lent-keeps l ok))) ∙ ap shown (face-says cs zeros zeros-keeps)
+
+-- what C sees behind other calls is what the machine answers behind theirs
+pub behind : (cs : List FaceCall) (c : FaceCall) (m : Call) → makes c ≡ m ∷ [] → Sees (callOf m (after (made cs))) (faceOf c (faceRun cs zeros))
+behind cs c m one =
+    let l = faceRun cs zeros in
+    subst (λ (s : State). Sees (callOf m s) (faceOf c l)) (face-says cs zeros zeros-keeps) (call-sees l (lent-formed l (face-keeps cs zeros zeros-keeps)) c m one)
 
 -- ---- what is refused
 
