@@ -34,6 +34,33 @@ use Rattle.xl_lent.specs.Face.{codesOf}
 use Rattle.xl_lent.specs.Typed.{typedLink, typedState, blockedLink, blockedState, closedLink, closedState}
 use Rattle.xl_lent.proofs.Says.{formed-says}
 
+-- ---- what is typed a second time
+
+-- all zeros is XL0 with nothing remembered
+pub zeros-ready : stateOf zeros ≡ ready
+zeros-ready = refl
+
+pub ready-zeros : shown ready ≡ zeros
+ready-zeros = refl
+
+pub typed-says : stateOf typedLink ≡ typedState
+typed-says = refl
+
+pub blocked-says : stateOf blockedLink ≡ blockedState
+blocked-says = refl
+
+pub closed-says : stateOf closedLink ≡ closedState
+closed-says = refl
+
+pub typed-shown : shown typedState ≡ typedLink
+typed-shown = refl
+
+pub blocked-shown : shown blockedState ≡ blockedLink
+blocked-shown = refl
+
+pub closed-shown : shown closedState ≡ closedLink
+closed-shown = refl
+
 -- ---- from a state to its numbers and back
 
 phase-back : (p : Phase) → phaseIn (phaseOf (phaseNumber p)) ≡ p
@@ -194,30 +221,3 @@ actions-back acts =
   where
     back : (a : Action) → actionOf (actionNumber a) ≡ ActionRead.Named a
     back a = action-named (actionNumber a) a .1 refl
-
--- ---- what is typed a second time
-
--- all zeros is XL0 with nothing remembered
-pub zeros-ready : stateOf zeros ≡ ready
-zeros-ready = refl
-
-pub ready-zeros : shown ready ≡ zeros
-ready-zeros = refl
-
-pub typed-says : stateOf typedLink ≡ typedState
-typed-says = refl
-
-pub blocked-says : stateOf blockedLink ≡ blockedState
-blocked-says = refl
-
-pub closed-says : stateOf closedLink ≡ closedState
-closed-says = refl
-
-pub typed-shown : shown typedState ≡ typedLink
-typed-shown = refl
-
-pub blocked-shown : shown blockedState ≡ blockedLink
-blocked-shown = refl
-
-pub closed-shown : shown closedState ≡ closedLink
-closed-shown = refl
