@@ -1,7 +1,7 @@
 /*
  * The port's ten calls as C reaches them, for tests and the bench: the crate bench_ports, document 01, 'Port'. The caller lends the list
- * of 32 records to each call, gives the port by value and goes on with the port of the reply. Every struct has C's own layout; what
- * lies between two members is not looked at and not promised.
+ * of 32 records to each call, gives the port by value and goes on with the port of the reply. Every struct has C's own layout. A
+ * record of the list has no padding: each of its bytes is promised. What lies between two members of the port is not looked at and not promised.
  */
 #ifndef SONERWAL_TESTS_PORTS_H
 #define SONERWAL_TESTS_PORTS_H
@@ -73,7 +73,7 @@ struct phy {
 
 /* A time in microseconds that may not have come. */
 struct stamp {
-	uint8_t set; /* 1 once it came, else 0 */
+	uint64_t set; /* 1 once it came, else 0 */
 	uint64_t at;
 };
 
@@ -81,15 +81,17 @@ struct request {
 	uint8_t stage;     /* 0 free, 1 waiting, 2 in progress */
 	uint8_t phy;       /* that a request in progress is on, else 0 */
 	uint8_t cancelled; /* 1 once it was, else 0 */
-	uint8_t closed;    /* 1 once choose closed a phy for it, else 0 */
 	uint8_t pbc;
-	uint16_t awt; /* of its last Open since its last reset, 0 if there was none */
+	uint16_t closed; /* 1 once choose closed a phy for it, else 0 */
+	uint16_t awt;    /* of its last Open since its last reset, 0 if there was none */
 	struct head head;
 	uint64_t submitted;
 	struct stamp retry; /* its last one */
 	struct stamp first; /* its first open after its last reset */
 	struct stamp loss;  /* the start of its destination's loss timer, in every SSP request to it */
 };
+
+_Static_assert(sizeof(struct request) == 88, "a record has no padding");
 
 struct port {
 	uint8_t count; /* of its phys */

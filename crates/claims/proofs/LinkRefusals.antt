@@ -13,7 +13,7 @@ use Rattle.laws.specs.Tests.{Says}
 use Rattle.laws.proofs.Tests.{both, implies, unless, means}
 use Rattle.refusals.specs.Causes.{Cause, Ground, _when_, refuse, First, Decides, nil, cons}
 use Rattle.refusals.specs.declared.Refusal.{Refusal}
-use Rattle.refusals.proofs.Causes.{Verdict, stopped, passes, verdict, only, if-first, through, refuse-append, refuse-under}
+use Rattle.refusals.proofs.Causes.{Verdict, stopped, passes, verdict, NoneGiven, only, if-first, through, refuse-append}
 use Rattle.open_frame.specs.Open.{headListed, headOf, frameOf, typed, readCauses, readOpen}
 use Rattle.open_frame.specs.declared.OpenFrame.{OpenFrame}
 use Rattle.open_frame.specs.declared.OpenRead.{OpenRead}
@@ -143,6 +143,14 @@ refuses s cs gs decides d r is-done is = record {
 step-refuses : (f : OpenFrame) (e : Event) (s : State) (r : Stepped) → r ≡ stepOf f e s → Refuses (stepGrounds f e s) s r
 unfolding stepOf
 step-refuses f e s r is = refuses s (causes f e s) (stepGrounds f e s) (step-decides f e s) (done (takes f e s)) r refl is
+
+-- what is answered where no cause is given matters only there
+refuse-under : {A : Type 0} (re : Refusal → A) (cs : List Cause) (a b : A) → (NoneGiven cs → a ≡ b) → refuse re cs a ≡ refuse re cs b
+refuse-under {A} re cs a b h = by (verdict cs)
+  where
+    by : Verdict cs → refuse re cs a ≡ refuse re cs b
+    by (stopped k e) = e A re a ∙ sym (e A re b)
+    by (passes off e) = e A re a ∙ h off ∙ sym (e A re b)
 
 abbrev receiveCauses : List ℕ → State → List Cause
 receiveCauses b s = readCauses b ++ ((Refusal.Rules when not (keepsRules s)) ∷ [])

@@ -9,11 +9,12 @@ use crate::answers;
 use crate::ports;
 use crate::records;
 use open_frame::OpenFrame;
+use port_parts::CLOSED;
 use port_parts::NO_SLOT;
 use port_parts::Pick;
 use port_parts::Port;
 use port_parts::Request;
-use port_parts::YES;
+use port_parts::SET;
 use port_parts::phy_stage;
 use port_parts::request_stage;
 use port_parts::step;
@@ -75,7 +76,7 @@ fn asked(r: Request, k: u8, now: u64) -> Request
     ensures { λ a. ⌜ a ≡ calls.asked r k now ⌝ }
 {
     let stamp = port_parts::stamped(now);
-    let first = answers::stamp_if(r.first.set == YES, r.first, stamp);
+    let first = answers::stamp_if(r.first.set == SET, r.first, stamp);
     let awt = open_frame::wait_value(elapsed(first.at, now));
     let on = records::placed(r, request_stage::IN_PROGRESS, k);
     records::waited(on, r.pbc, awt, r.retry, first)
@@ -99,7 +100,7 @@ fn closing(p: Port, r: Request, b: Pick, now: u64) -> Done
     let g = ports::staged_phy(phy_stage::CLOSING, NO_SLOT, f);
     let q = ports::with_phy(p, b.phy, g, now);
     let answer = answers::said(Word::Close, b.slot, b.phy, r);
-    let entry = records::marked(r, r.cancelled, YES);
+    let entry = records::marked(r, r.cancelled, CLOSED);
     let loss = answers::no_loss();
     answers::stored(q, answer, entry, loss)
 }

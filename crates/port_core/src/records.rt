@@ -15,7 +15,7 @@ pub(crate) fn placed(r: Request, stage: u8, phy: u8) -> Request
     q
 }
 
-pub(crate) fn marked(r: Request, cancelled: u8, closed: u8) -> Request
+pub(crate) fn marked(r: Request, cancelled: u8, closed: u16) -> Request
     ensures { λ a. ⌜ a ≡ marked r cancelled closed ⌝ }
 {
     let mut q = r;

@@ -12,6 +12,7 @@ use port_parts::NO_PHY;
 use port_parts::NO_SLOT;
 use port_parts::Port;
 use port_parts::Request;
+use port_parts::UNCLOSED;
 use port_parts::request_stage;
 use port_rows::Done;
 use port_rows::Room;
@@ -65,8 +66,8 @@ fn submitted(v: Room, x: Submission) -> Request
         stage: request_stage::WAITING,
         phy: 0,
         cancelled: NO,
-        closed: NO,
         pbc: Pbc(0),
+        closed: UNCLOSED,
         awt: Awt(0),
         head,
         submitted: x.now,

@@ -5,13 +5,13 @@ ghost use Rattle.laws.specs.Sets.{bit};
 ghost use Rattle.port_parts.specs.Choice.{joinedOf, freeSets, wayFor, isReady, noPick, picked, earlierOf, chosenStep};
 ghost use Rattle.port_parts.specs.Choice as choice;
 use crate::Asked;
-use crate::NO;
 use crate::Phy;
 use crate::Pick;
 use crate::Request;
+use crate::SET;
 use crate::Sets;
+use crate::UNCLOSED;
 use crate::Way;
-use crate::YES;
 use crate::parts;
 use crate::phy_stage;
 use crate::request_stage;
@@ -81,7 +81,7 @@ fn way_for(phys: [Phy; 8], r: Request) -> Way
             phy: u8::trailing_zeros(free.opens) as u8,
         };
     }
-    if (r.closed == NO) & (0 < u8::count_ones(free.closes)) {
+    if (r.closed == UNCLOSED) & (0 < u8::count_ones(free.closes)) {
         return Way {
             step: step::CLOSES,
             phy: u8::trailing_zeros(free.closes) as u8,
@@ -97,7 +97,7 @@ fn is_ready(r: Request, now: u64) -> bool
     ensures { λ a. ⌜ a ≡ isReady r now ⌝ }
 {
     (r.stage == request_stage::WAITING)
-        & (!(r.retry.set == YES) | parts::reached(r.retry.at, 15, now))
+        & (!(r.retry.set == SET) | parts::reached(r.retry.at, 15, now))
 }
 
 pub fn no_pick() -> Pick

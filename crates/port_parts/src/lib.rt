@@ -38,10 +38,18 @@ pub const SSP: u8 = 1;
 
 pub const PROTOCOLS: u8 = 3;
 
-// A mark of a lent record: it can hold any number.
+// A mark of a lent record: it can hold any number. The marks of its widths are told apart, since a record without padding has wider ones.
 pub const NO: u8 = 0;
 
 pub const YES: u8 = 1;
+
+pub const UNCLOSED: u16 = 0;
+
+pub const CLOSED: u16 = 1;
+
+pub const UNSET: u64 = 0;
+
+pub const SET: u64 = 1;
 
 // A phy of the port. Lent states can hold any numbers; the rules of a state say which are taken.
 #[repr(C)]
@@ -58,13 +66,13 @@ pub struct Phy {
 // A time that may not have come.
 #[repr(C)]
 pub struct Stamp {
-    // YES once it came, else NO.
-    pub set: u8,
+    // SET once it came, else UNSET; as wide as the time, so that a lent stamp has no padding.
+    pub set: u64,
     // Microseconds.
     pub at: u64,
 }
 
-// A record of the list that the caller lends.
+// A record of the list that the caller lends: 88 bytes without padding, so that each of them is promised.
 #[repr(C)]
 pub struct Request {
     // One of request_stage.
@@ -73,9 +81,9 @@ pub struct Request {
     pub phy: u8,
     // YES once it was cancelled, else NO.
     pub cancelled: u8,
-    // YES once choose closed a phy for it, else NO.
-    pub closed: u8,
     pub pbc: Pbc,
+    // CLOSED once choose closed a phy for it, else UNCLOSED.
+    pub closed: u16,
     // What its last Open carried since its last reset, 0 if there was none.
     pub awt: Awt,
     pub head: Head,

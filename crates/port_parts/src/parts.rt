@@ -8,8 +8,10 @@ use crate::NO;
 use crate::NO_SLOT;
 use crate::Phy;
 use crate::Request;
+use crate::SET;
 use crate::Stamp;
-use crate::YES;
+use crate::UNCLOSED;
+use crate::UNSET;
 use crate::phy_stage;
 use crate::request_stage;
 use open_frame::Awt;
@@ -33,13 +35,13 @@ pub fn has_frame_out(p: Phy) -> bool
 pub fn no_stamp() -> Stamp
     ensures { λ r. ⌜ r ≡ noStamp ⌝ }
 {
-    Stamp { set: NO, at: 0 }
+    Stamp { set: UNSET, at: 0 }
 }
 
 pub fn stamped(now: u64) -> Stamp
     ensures { λ r. ⌜ r ≡ parts.stamped now ⌝ }
 {
-    Stamp { set: YES, at: now }
+    Stamp { set: SET, at: now }
 }
 
 // A disabled phy.
@@ -62,8 +64,8 @@ pub fn blank() -> Request
         stage: request_stage::FREE,
         phy: 0,
         cancelled: NO,
-        closed: NO,
         pbc: Pbc(0),
+        closed: UNCLOSED,
         awt: Awt(0),
         head: Head {
             initiator: 0,

@@ -1,8 +1,8 @@
 // Document 01, 'Port': a destination's loss timer.
 ghost use mathlib.Core.Path.{_≡_};
 ghost use Rattle.port_parts.specs.Timer.{timerBy, isLost};
+use crate::SET;
 use crate::Stamp;
-use crate::YES;
 use crate::parts;
 
 // The loss time that is never reached, in milliseconds.
@@ -15,7 +15,7 @@ pub fn timer_by(stops: bool, starts: bool, t: Stamp, now: u64) -> Stamp
     if stops {
         return parts::no_stamp();
     }
-    if starts & !(t.set == YES) {
+    if starts & !(t.set == SET) {
         return parts::stamped(now);
     }
     t
@@ -25,5 +25,5 @@ pub fn timer_by(stops: bool, starts: bool, t: Stamp, now: u64) -> Stamp
 pub fn is_lost(t: Stamp, loss: u16, now: u64) -> bool
     ensures { λ a. ⌜ a ≡ isLost t loss now ⌝ }
 {
-    (t.set == YES) & (!(loss == NEVER) & parts::reached(t.at, loss as u64 * 1000, now))
+    (t.set == SET) & (!(loss == NEVER) & parts::reached(t.at, loss as u64 * 1000, now))
 }

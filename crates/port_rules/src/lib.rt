@@ -3,11 +3,13 @@ ghost use mathlib.Core.Path.{_≡_};
 ghost use Rattle.port_rules.specs.Rules.{phyRule, portRule, pairedAt, paired, presentRule, requestRule, apartStep, comparedOf};
 ghost use Rattle.port_rules.specs.Rules as rules;
 use open_frame::Head;
+use port_parts::CLOSED;
 use port_parts::NO_SLOT;
 use port_parts::PROTOCOLS;
 use port_parts::Phy;
 use port_parts::Port;
 use port_parts::Request;
+use port_parts::SET;
 use port_parts::SSP;
 use port_parts::Stamp;
 use port_parts::YES;
@@ -86,8 +88,8 @@ fn flags_rule(r: Request) -> bool
 {
     (r.stage <= request_stage::IN_PROGRESS)
         & ((r.cancelled <= YES)
-            & ((r.closed <= YES)
-                & ((r.retry.set <= YES) & ((r.first.set <= YES) & (r.loss.set <= YES)))))
+            & ((r.closed <= CLOSED)
+                & ((r.retry.set <= SET) & ((r.first.set <= SET) & (r.loss.set <= SET)))))
 }
 
 fn present_rule(r: Request, last: u64) -> bool
@@ -98,7 +100,7 @@ fn present_rule(r: Request, last: u64) -> bool
     flags_rule(r)
         & (fields
             & ((!(r.cancelled == YES) | (r.stage == request_stage::IN_PROGRESS))
-                & (stamps_rule(r, last) & ((h.protocol == SSP) | !(r.loss.set == YES)))))
+                & (stamps_rule(r, last) & ((h.protocol == SSP) | !(r.loss.set == SET)))))
 }
 
 // The rules that speak of one record.
@@ -132,8 +134,8 @@ pub fn compared_of(r: Request, i: usize) -> Compared
 fn same_timer(s: Stamp, t: Stamp) -> bool
     ensures { λ a. ⌜ a ≡ rules.sameTimer s t ⌝ }
 {
-    let runs = s.set == YES;
-    let other = t.set == YES;
+    let runs = s.set == SET;
+    let other = t.set == SET;
     ((!runs | other) & (!other | runs)) & (!runs | (s.at == t.at))
 }
 

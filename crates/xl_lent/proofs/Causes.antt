@@ -4,12 +4,14 @@ use Prim.Native.Nat.{ℕ}
 use mathlib.Core.Bool.{Bool, true, false, not, cond, _&&_}
 use mathlib.Core.List.{List, [], _∷_, _++_}
 use mathlib.Core.Path.{_≡_, refl, sym, ap, _∙_}
+use lib.Dec.{eqb}
+use lib.ListN.{length}
 use borrow.Author.Tests.{not-false}
-use Rattle.laws.proofs.Bools.{and-right}
+use Rattle.laws.proofs.Bools.{and-right, on-false}
 use Rattle.refusals.specs.Causes.{Cause, _when_, refuse}
 use Rattle.refusals.specs.Refusals.{numberOf}
 use Rattle.refusals.specs.declared.Refusal.{Refusal}
-use Rattle.refusals.proofs.Causes.{through, refuse-append, refuse-under}
+use Rattle.refusals.proofs.Causes.{through}
 use Rattle.open_frame.specs.Open.{headListed, headOf, frameOf, typed, readCauses, readOpen}
 use Rattle.open_frame.specs.declared.OpenFrame.{OpenFrame}
 use Rattle.open_frame.specs.declared.OpenRead.{OpenRead}
@@ -61,10 +63,11 @@ receive-is l b =
     let f = frameOf b in
     let e = Event.Line Primitive.Open in
     let d = told l (done (takes f e (stateOf l))) in
+    let listed = typed b && headListed (headOf b) in
     through (opened l) OpenRead.Refused (readCauses b) (OpenRead.Frame f)
-    ∙ refuse-under (refused l) (readCauses b) (met l e f) (refuse (refused l) (statusCauses l) d)
-    (λ off. met-is l e f ∙ ap (λ (t : Bool). refuse (refused l) ((Refusal.Unlisted when not t) ∷ statusCauses l) d) (and-right (typed b) _ (not-false (typed b && headListed (headOf b)) (off .1 .0))))
-    ∙ sym (refuse-append (refused l) (readCauses b) (statusCauses l) d)
+    ∙ on-false (not (eqb (length b) 28)) (refused l Refusal.Length) (refuse (refused l) ((Refusal.Unlisted when not listed) ∷ []) (met l e f)) (refuse (refused l) ((Refusal.Unlisted when not listed) ∷ statusCauses l) d)
+    (λ _. on-false (not listed) (refused l Refusal.Unlisted) (met l e f) (refuse (refused l) (statusCauses l) d)
+    (λ off. met-is l e f ∙ ap (λ (t : Bool). refuse (refused l) ((Refusal.Unlisted when not t) ∷ statusCauses l) d) (and-right (typed b) _ (not-false listed off))))
 
 pub status-is : (l : Link) → linkStatus l ≡ refuse numberOf (statusCauses l) (statusNumber (inPhase (stateOf l .phase) (stateOf l .memory .aip)))
 unfolding linkStatus statusOf keepsLent

@@ -21,8 +21,9 @@ use Rattle.xl_numbers.specs.declared.states.PhaseRead.{PhaseRead}
 use Rattle.xl_numbers.specs.declared.states.AipRead.{AipRead}
 use Rattle.xl_numbers.specs.States.{phases, phaseOf, aipNumber, aips, aipOf}
 use Rattle.xl_numbers.specs.declared.codes.ActionRead.{ActionRead}
-use Rattle.xl_numbers.specs.Codes.{flag, actionNumber, actionOf}
-use Rattle.xl_numbers.proofs.Lists.{each-within}
+use Rattle.xl_numbers.specs.Codes.{actionNumber, actionOf}
+use Rattle.laws.specs.Names.{flag}
+use Rattle.laws.proofs.Places.{each-within}
 use Rattle.xl_numbers.proofs.KindTrips.{wait-back}
 use Rattle.xl_numbers.proofs.StateTrips.{phase-named, aip-named}
 use Rattle.xl_numbers.proofs.CodeTrips.{action-named}

@@ -1,4 +1,4 @@
--- What the functions ask of their arguments holds of all of them: the expander link, what C calls of it, and the bench over it. Assumes nothing.
+-- What the functions ask of their arguments holds of all of them: the expander link, and what C calls of it. Assumes nothing.
 use Rattle.xl_parts.proofs.ready.Kinds as ready-of
 use Rattle.xl_parts.proofs.ready.Reads as ready
 use Rattle.xl_parts.proofs.stay.Kinds as stay-of
@@ -57,8 +57,6 @@ use Rattle.sonerwal.proofs.link.sonerwal_link_receive.Kinds as c-link-receive-o
 use Rattle.sonerwal.proofs.link.sonerwal_link_receive.Reads as c-link-receive
 use Rattle.sonerwal.proofs.link.sonerwal_link_status.Kinds as c-link-status-of
 use Rattle.sonerwal.proofs.link.sonerwal_link_status.Reads as c-link-status
-use Rattle.bench_links.proofs.bench_links.Kinds as bench-links-of
-use Rattle.bench_links.proofs.bench_links.Reads as bench-links
 use Rattle.claims.proofs.Calls.{Anything}
 
 pub record Links : Type 2 where
@@ -91,7 +89,6 @@ pub record Links : Type 2 where
   pub c-link-event : Anything 0 c-link-event-of.ps c-link-event.Pre
   pub c-link-receive : Anything 1 c-link-receive-of.ps c-link-receive.Pre
   pub c-link-status : Anything 0 c-link-status-of.ps c-link-status.Pre
-  pub bench-links : Anything 1 bench-links-of.ps bench-links.Pre
 
 pub links : Links
 links = record {
@@ -124,5 +121,4 @@ links = record {
   c-link-event = λ κs a. tt;
   c-link-receive = λ κs a. tt;
   c-link-status = λ κs a. tt;
-  bench-links = λ κs a. tt;
 }

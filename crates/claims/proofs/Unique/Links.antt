@@ -1,4 +1,4 @@
--- Two outcomes that meet a promise are equal: the expander link, what C calls of it, and the bench over it. Assumes nothing.
+-- Two outcomes that meet a promise are equal: the expander link, and what C calls of it. Assumes nothing.
 use mathlib.Core.Path.{refl, sym, _∙_}
 use Rattle.xl_parts.proofs.ready.Kinds as ready-of
 use Rattle.xl_parts.proofs.ready.Reads as ready
@@ -58,8 +58,6 @@ use Rattle.sonerwal.proofs.link.sonerwal_link_receive.Kinds as c-link-receive-o
 use Rattle.sonerwal.proofs.link.sonerwal_link_receive.Reads as c-link-receive
 use Rattle.sonerwal.proofs.link.sonerwal_link_status.Kinds as c-link-status-of
 use Rattle.sonerwal.proofs.link.sonerwal_link_status.Reads as c-link-status
-use Rattle.bench_links.proofs.bench_links.Kinds as bench-links-of
-use Rattle.bench_links.proofs.bench_links.Reads as bench-links
 use Rattle.claims.proofs.Calls.{One, none}
 
 pub record Links : Type 2 where
@@ -92,7 +90,6 @@ pub record Links : Type 2 where
   pub c-link-event : One 0 c-link-event-of.ps c-link-event-of.r (none 0 c-link-event-of.ps c-link-event-of.r) c-link-event.Post
   pub c-link-receive : One 1 c-link-receive-of.ps c-link-receive-of.r (none 1 c-link-receive-of.ps c-link-receive-of.r) c-link-receive.Post
   pub c-link-status : One 0 c-link-status-of.ps c-link-status-of.r (none 0 c-link-status-of.ps c-link-status-of.r) c-link-status.Post
-  pub bench-links : One 1 bench-links-of.ps bench-links-of.r (none 1 bench-links-of.ps bench-links-of.r) bench-links.Post
 
 pub links : Links
 links = record {
@@ -125,5 +122,4 @@ links = record {
   c-link-event = λ κs a x y s t p q. (p ∙ sym q, refl);
   c-link-receive = λ κs a x y s t p q. (p ∙ sym q, refl);
   c-link-status = λ κs a x y s t p q. (p ∙ sym q, refl);
-  bench-links = λ κs a x y s t p q. (p ∙ sym q, refl);
 }
