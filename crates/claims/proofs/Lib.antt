@@ -7,6 +7,7 @@ pub mod Faces
 pub mod Frames
 pub mod Leaving
 pub mod Links
+pub mod LinkFace
 pub mod LinkNumbers
 pub mod LinkRefusals
 mod Named
