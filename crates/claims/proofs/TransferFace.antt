@@ -98,6 +98,11 @@ step-kept : (d : machine.Call) (t : Transfer) → isRefused (machine.stepOf limi
 step-kept (machine.Call.plain c) t e = refused-kept limit t c e
 step-kept (machine.Call.next destination source tag body out) t e = next-kept destination source tag body out t e .0
 
+-- the first ground holds, or another is the first
+by-first : {P p : Type 0} {j k : Refusal} {gs : List Ground} → First ((j if p) ∷ gs) k → (p → j ≡ k → P) → ((p → ⊥) → First gs k → P) → P
+by-first (here h) f g = f h refl
+by-first (later off rest) f g = g off rest
+
 -- as C sees it
 module _ (c : Call) (s : State) where
   abbrev answer : Answer
@@ -106,19 +111,14 @@ module _ (c : Call) (s : State) where
   face-exactly : (k : Refusal) → (faceOf c s .answer ≡ numberOf k) ↔ First (faceGrounds c s) k
   face-exactly k = by (formed s) refl
     where
-      from : First (faceGrounds c s) k → formed s ≡ true → faceOf c s .answer ≡ numberOf k
-      from (here h) on = absurd (clash (formed s) on h)
-      from (later off f) on = answer-on c s on ∙ ap answerNumber (step-exactly (callOf c) (stateOf s) k .1 f)
-
-      only : First (faceGrounds c s) k → formed s ≡ false → faceOf c s .answer ≡ numberOf k
-      only (here h) off = answer-off c s off
-      only (later unless f) off = absurd (unless off)
-
       by : (f : Bool) → formed s ≡ f → (faceOf c s .answer ≡ numberOf k) ↔ First (faceGrounds c s) k
-      by false off = ((λ e. rw (← one-number Refusal.Rules k (sym (answer-off c s off) ∙ e)) (here off)), (λ f. only f off))
+      by false off = (
+        (λ e. rw (← one-number Refusal.Rules k (sym (answer-off c s off) ∙ e)) (here off)),
+        (λ f. by-first f (λ h same. answer-off c s off ∙ ap numberOf same) (λ unless rest. absurd (unless off))),
+      )
       by true on = (
         (λ e. later (λ off. clash (formed s) on off) (step-exactly (callOf c) (stateOf s) k .0 (one-answer answer (Answer.Refused k) (sym (answer-on c s on) ∙ e)))),
-        (λ f. from f on),
+        (λ f. by-first f (λ off same. absurd (clash (formed s) on off)) (λ unless rest. answer-on c s on ∙ ap answerNumber (step-exactly (callOf c) (stateOf s) k .1 rest))),
       )
 
   -- the way of a formed state

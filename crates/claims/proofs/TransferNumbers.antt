@@ -29,7 +29,8 @@ pub record TransferNumbers : Type 0 where
   pub forms : (t : Transfer) → formed (shown t) ≡ true
   pub reads : (t : Transfer) → stateOf (shown t) ≡ t
   pub shows : (s : State) → formed s ≡ true → shown (stateOf s) ≡ s
-  -- 01 READ.16: that before START, all zeros
+  -- 01 READ.16
+  -- all zeros is the state before START
   pub begins : shown unstarted ≡ zeros
   -- and the numbers are those that are typed a second time
   pub typed-phases : map phaseNumber typedPhases ≡ 0 ∷ 1 ∷ 2 ∷ 3 ∷ 4 ∷ 5 ∷ []

@@ -17,7 +17,8 @@ use Rattle.transfer_lent.specs.Lent.{stateOf}
 use Rattle.transfer_lent.specs.Face.{Call, start, frame, ack, nak, timeout, lost, nexus, cancel, next, faceOf, bytesOf, lengthOf}
 use Rattle.transfer_lent.specs.declared.State.{State}
 
--- 01 READ.16: it is that before START, all zeros
+-- 01 READ.16
+-- the state before START
 abbrev pub zeros : State
 zeros = record { offset = 0; count = 0; size = 0; resends = 0; read = 0; balance = 0; unanswered = 0; used = 0; zero2 = 0; sent = 0; phase = 0 }
 

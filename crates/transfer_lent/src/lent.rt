@@ -6,6 +6,7 @@ ghost use Rattle.transfer_lent.specs.Lent.{formed, stateOf, shown, told,
 use crate::State;
 use crate::Step;
 use crate::numbers;
+use refusals::Refusal;
 use transfer::Stepped;
 use transfer::Transfer;
 
@@ -74,14 +75,13 @@ pub(crate) fn told(r: Stepped) -> Step
     Step { state, answer }
 }
 
-// 01 REFUSAL.3: a lent state breaks its rules; it comes back to the last member.
+// 01 REFUSAL.3
+// Numbers that name no transfer come back to the last member.
 pub(crate) fn malformed(s: State) -> Step
     ensures { λ r. ⌜ r ≡ malformed s ⌝ }
 {
-    Step {
-        state: s,
-        answer: 3,
-    }
+    let answer = refusals::number(Refusal::Rules);
+    Step { state: s, answer }
 }
 
 // How long the next frame is, 0 where FRAME is refused.
