@@ -3,6 +3,7 @@
 ghost use Rattle.sonerwal.specs.Face.{open9, openLent, dataLent, dataGiven, reading, writing, OpenReads, OpenWrites, DataReads, DataWrites};
 
 pub mod link;
+pub mod ports;
 
 use open_frame::Awt;
 use open_frame::Head;

@@ -1,0 +1,6 @@
+-- The laws of the port as C lends it.
+pub mod Eights
+pub mod Rows
+pub mod Hands
+pub mod Setup
+pub mod Through

@@ -1,0 +1,5 @@
+-- The port as C lends it.
+pub mod Numbers
+pub mod Lent
+pub mod Given
+pub mod Face
