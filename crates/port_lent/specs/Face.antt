@@ -2,7 +2,10 @@
 use mathlib.Core.Bool.{cond}
 use mathlib.Core.List.{List}
 use mathlib.Core.Path.{_≡_}
+use Rattle.refusals.specs.Refusals.{numberOf}
+use Rattle.refusals.specs.declared.Refusal.{Refusal}
 use Rattle.open_lent.specs.Lent as frames
+use Rattle.port_parts.specs.Parts.{noSlot, noPhy}
 use Rattle.port_parts.specs.declared.Port.{Port}
 use Rattle.port_parts.specs.declared.Request.{Request}
 use Rattle.port_rows.specs.declared.Done.{Done}
@@ -30,6 +33,11 @@ shown p s = record {
   slot = s .answer .slot;
   phy = s .answer .phy;
 }
+
+-- 01 REFUSAL.12
+-- a refusal gives only its number: it names no request and no phy, and its frame is zeros
+abbrev pub refused : LentPort → Refusal → PortStep
+refused p k = record { port = p; frame = frames.clear; answer = numberOf k; detail = 0; slot = noSlot; phy = noPhy }
 
 -- a setup is lent no port, and one that is refused gives none
 abbrev pub setUp : Stepped → PortStep

@@ -3,3 +3,5 @@ pub mod Numbers
 pub mod Lent
 pub mod Given
 pub mod Face
+pub mod Runs
+pub mod Typed
