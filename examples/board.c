@@ -6,25 +6,17 @@
  * The day is told twice, by the same seed: with Sonerwal's transfer, and with the rule of the firmware before it, which
  * counted unanswered frames modulo sixteen.
  */
-#include <inttypes.h>
-#include <stdbool.h>
-#include <stdio.h>
-#include <stdlib.h>
 #include <string.h>
 
+#include "board_expander.h"
+#include "board_old.h"
+#include "board_tell.h"
 #include "sonerwal.h"
 
-enum { IMAGE = 1088, SIZE = 64, RESENDS = 3, BURST = 16, PHYS = 2, STREAMS = 2, SEED = 5 };
+enum { RESENDS = 3, BURST = 16, PHYS = 2, STREAMS = 2, SEED = 40 };
 enum { HOST_HASH = 0x123456, BOARD_HASH = 0x654321 };
 
 static const uint64_t host = UINT64_C(0x5003048087654321), board = UINT64_C(0x5000C50012345678);
-
-/* The count of the firmware before: four bits, so that sixteen frames on the wire look like none. */
-struct old_count {
-	uint32_t read, balance;
-	uint8_t unanswered;
-	bool drain, done;
-};
 
 /* An image on its way. */
 struct stream {
@@ -41,31 +33,12 @@ struct stream {
 	uint8_t received[IMAGE];       /* at the host, where the pair before still lies */
 };
 
-enum { NAK, ACK };
-
 static struct stream streams[STREAMS];
 static struct sonerwal_request list[SONERWAL_SLOTS];
 static struct sonerwal_port port;
-static struct sonerwal_link links[2]; /* of the expander: to the board and to the host */
 static bool opening[PHYS], sending[PHYS], refused_once;
-static uint64_t now;
 static bool old_rule; /* the firmware before */
 static uint32_t seed;
-
-/* ---- How it is told */
-
-static void line(const char *who, const char *what)
-{
-	printf("%5" PRIu64 "  %-7s %-26s ", now, who, what);
-}
-
-static void must(bool holds, const char *what)
-{
-	if (!holds) {
-		printf("%s\n", what);
-		exit(EXIT_FAILURE);
-	}
-}
 
 /* ---- The wire: one in so many, by the seed */
 
@@ -82,8 +55,7 @@ static uint32_t length_of(const struct stream *s)
 	if (!old_rule) {
 		return sonerwal_transfer_length(s->transfer);
 	}
-	uint32_t left = IMAGE - s->old.read;
-	return s->old.drain || s->old.done ? 0 : left < SIZE ? left : SIZE;
+	return old_length(&s->old);
 }
 
 static uint32_t read_of(const struct stream *s)
@@ -101,51 +73,20 @@ static unsigned unanswered_by(const struct stream *s)
 	return old_rule ? s->old.unanswered : s->transfer.unanswered;
 }
 
-/* With none unanswered all that went has arrived: that is the rule, and sixteen were none. */
-static uint8_t old_settled(struct old_count *o)
-{
-	if (o->unanswered == 0) {
-		o->balance = o->read;
-		o->done = o->balance == IMAGE;
-	}
-	return o->done ? SONERWAL_DONE : SONERWAL_OK;
-}
-
-static uint8_t old_resend(struct old_count *o)
-{
-	o->read = o->balance;
-	o->unanswered = 0;
-	o->drain = false;
-	return SONERWAL_RETRY;
-}
-
-static uint8_t old_answered(struct old_count *o, uint8_t answer)
-{
-	o->unanswered = (o->unanswered + 15) % 16;
-	o->drain = o->drain || answer == NAK;
-	if (!o->drain) {
-		return old_settled(o);
-	}
-	return o->unanswered == 0 ? old_resend(o) : SONERWAL_DRAIN;
-}
-
-static uint8_t old_frame(struct stream *s, uint8_t *frame, size_t room)
+static uint8_t old_next(struct stream *s, uint8_t *frame, size_t room)
 {
 	struct sonerwal_data data = {HOST_HASH, BOARD_HASH, s->old.read, s->tag, (uint16_t)length_of(s), 0};
 	must(sonerwal_data_put(&data, s->image + s->old.read, frame, room) == SONERWAL_OK, "no DATA frame");
-	s->old.read += data.length;
-	s->old.unanswered = (s->old.unanswered + 1) % 16;
-	old_settled(&s->old);
-	return SONERWAL_SENT;
+	return old_sent(&s->old, data.length);
 }
 
 static uint8_t next_frame(struct stream *s, uint8_t *frame, size_t room)
 {
 	if (old_rule) {
-		return old_frame(s, frame, room);
+		return old_next(s, frame, room);
 	}
-	return sonerwal_transfer_keep(&s->transfer, sonerwal_transfer_next(s->transfer, HOST_HASH, BOARD_HASH, s->tag, s->image + s->transfer.read,
-	                                                                   length_of(s), frame, room));
+	const uint8_t *body = s->image + s->transfer.read;
+	return sonerwal_transfer_keep(&s->transfer, sonerwal_transfer_next(s->transfer, HOST_HASH, BOARD_HASH, s->tag, body, length_of(s), frame, room));
 }
 
 static uint8_t answered(struct stream *s, uint8_t answer)
@@ -159,68 +100,9 @@ static uint8_t answered(struct stream *s, uint8_t answer)
 static uint8_t timed_out(struct stream *s)
 {
 	if (old_rule) {
-		old_settled(&s->old);
-		return old_resend(&s->old);
+		return old_timed_out(&s->old);
 	}
 	return sonerwal_transfer_keep(&s->transfer, sonerwal_transfer_timeout(s->transfer));
-}
-
-/* ---- The expander: what one link says to the router the other hears */
-
-static const char *kind_name(struct sonerwal_action a)
-{
-	static const char *const low[] = {"", "OPEN", "OPEN_ACCEPT", "OPEN_REJECT", "AIP", "CLOSE", "BREAK"};
-	static const char *const router[] = {"SendOpen", "SendClose", "SendBreak", "ArbStatus", "OpenAccept", "OpenReject", "BackoffRetry", "BackoffReversePath"};
-	switch (a.kind) {
-	case SONERWAL_KIND_ARB_WON: return "ArbWon";
-	case SONERWAL_KIND_REQUEST_PATH: return "RequestPath";
-	case SONERWAL_KIND_SENT: return "Sent";
-	case SONERWAL_KIND_FORWARDED: return "Forwarded";
-	default: return a.kind < 16 ? low[a.kind] : router[a.kind - 16];
-	}
-}
-
-static void hear(unsigned link, uint8_t kind, uint8_t detail, const struct sonerwal_open *frame);
-
-/* Says what a step did, and hands on what goes to the other link. */
-static void act(unsigned link, const char *what, const struct sonerwal_link_step *step)
-{
-	must(step->answer == SONERWAL_OK, "the link refused");
-	links[link] = step->state;
-	if (!old_rule) {
-		line(link == 0 ? "link 0" : "link 1", what);
-		for (unsigned i = 0; i < 4 && step->action[i].kind != SONERWAL_KIND_NONE; i++) {
-			printf("%s%s", i > 0 ? ", " : "", kind_name(step->action[i]));
-		}
-		printf("%sXL%d, %s\n", step->action[0].kind != SONERWAL_KIND_NONE ? "; " : "", links[link].phase,
-		       sonerwal_answer_name(sonerwal_link_status(links[link])));
-	}
-	for (unsigned i = 0; i < 4; i++) {
-		struct sonerwal_action a = step->action[i];
-		if (a.kind >= SONERWAL_KIND_SEND_OPEN && a.kind <= SONERWAL_KIND_BACKOFF_REVERSE_PATH) {
-			hear(1 - link, a.kind, a.detail, sonerwal_link_frame(step));
-		}
-	}
-}
-
-static void hear(unsigned link, uint8_t kind, uint8_t detail, const struct sonerwal_open *frame)
-{
-	struct sonerwal_event event = {kind, detail};
-	struct sonerwal_action heard = {kind, detail};
-	struct sonerwal_link_step step = sonerwal_link_event(links[link], event, *frame);
-	act(link, kind_name(heard), &step);
-}
-
-/* An OPEN through both links to the host, which accepts it. */
-static void through(const uint8_t *bytes, const struct sonerwal_open *frame)
-{
-	struct sonerwal_link_step step = sonerwal_link_receive(links[0], bytes, SONERWAL_OPEN_SIZE);
-	act(0, "OPEN", &step);
-	hear(0, SONERWAL_KIND_ARB_WON, 0, frame);
-	hear(0, SONERWAL_KIND_FORWARDED, 0, frame);
-	hear(1, SONERWAL_KIND_SENT, 0, frame);
-	hear(1, SONERWAL_KIND_OPEN_ACCEPT, 0, frame);
-	must(sonerwal_link_status(links[0]) == SONERWAL_CONNECTED, "no connection");
 }
 
 /* ---- The port's answers */
@@ -233,7 +115,7 @@ static struct stream *stream_of(uint16_t tag)
 static void told(const char *what, const struct sonerwal_port_step *r)
 {
 	sonerwal_port_keep(&port, r);
-	if (old_rule) {
+	if (quiet) {
 		return;
 	}
 	line("port", what);
@@ -253,11 +135,10 @@ static void send_frame(struct stream *s, uint8_t phy)
 	uint8_t frame[SONERWAL_DATA_SIZE_MAX];
 	struct sonerwal_data data;
 	uint32_t from = read_of(s), length = length_of(s);
-	bool lost = one_in(8), spoiled = one_in(16);
+	bool lost = one_in(24), spoiled = one_in(24);
 
 	if (s->burst == 0) {
 		s->late = one_in(4);
-		s->answers = 0;
 	}
 	must(next_frame(s, frame, sizeof frame) == SONERWAL_SENT, "no frame");
 	if (!lost && !spoiled) {
@@ -271,7 +152,8 @@ static void send_frame(struct stream *s, uint8_t phy)
 	s->asked = false;
 	sending[phy] = true;
 	line(s->name, "frame");
-	printf("bytes %" PRIu32 " to %" PRIu32 "%s; unanswered %u\n", from, from + length - 1, lost ? ", lost" : spoiled ? ", spoiled" : "", unanswered_by(s));
+	printf("bytes %" PRIu32 " to %" PRIu32 "%s; unanswered %u\n", from, from + length - 1,
+	       lost ? ", lost" : spoiled ? ", spoiled" : "", unanswered_by(s));
 }
 
 static void follow(const char *what, const struct sonerwal_port_step *r)
@@ -377,22 +259,20 @@ static void hear_answers(struct stream *s)
 		printf("%s; unanswered %u\n", sonerwal_answer_name(answer), unanswered_by(s));
 		now++;
 	}
-	if (!is_finished(s) && s->burst > 0 && (s->late || s->answers < s->burst) && answer != SONERWAL_RETRY) {
+	if (s->burst > 0 && !is_finished(s) && (s->late || s->answers < s->burst) && answer != SONERWAL_RETRY) {
 		now += 1000;
 		answer = timed_out(s);
 		line(s->name, "TIMEOUT");
 		printf("%s; resends from byte %" PRIu32 "\n", sonerwal_answer_name(answer), read_of(s));
 	}
 	s->burst = 0;
+	s->answers = 0;
 }
 
-/* The host closes: CLOSE goes both ways. */
+/* The host closes. */
 static void hang_up(void)
 {
-	const struct sonerwal_open none = {0};
-
-	hear(1, SONERWAL_KIND_CLOSE, 0, &none);
-	hear(0, SONERWAL_KIND_CLOSE, 0, &none);
+	hang_up_links();
 	for (uint8_t phy = 0; phy < PHYS; phy++) {
 		if (port.phys[phy].stage == SONERWAL_PHY_IDLE) {
 			struct sonerwal_port_step r = sonerwal_port_closed(list, SONERWAL_SLOTS, port, phy, now);
@@ -426,23 +306,21 @@ static void prepare(void)
 	}
 }
 
-/* Whether the host has the image that the camera shot. */
+/* Whether the host has the image that the camera shot, frame by frame. */
 static bool report(const struct stream *s)
 {
-	unsigned first = 0, last = IMAGE;
+	bool same = true;
 
-	if (memcmp(s->image, s->received, IMAGE) == 0) {
+	for (unsigned at = 0; at < IMAGE; at += SIZE) {
+		if (memcmp(s->image + at, s->received + at, SIZE) != 0) {
+			printf("%-6s bytes %u to %u are of the pair before\n", s->name, at, at + SIZE - 1);
+			same = false;
+		}
+	}
+	if (same) {
 		printf("%-6s %d bytes, as the camera shot them\n", s->name, IMAGE);
-		return true;
 	}
-	while (s->image[first] == s->received[first]) {
-		first++;
-	}
-	while (s->image[last - 1] == s->received[last - 1]) {
-		last--;
-	}
-	printf("%-6s bytes %u to %u are of the pair before: a pair that never existed\n", s->name, first, last - 1);
-	return false;
+	return same;
 }
 
 static bool day(bool old, const char *title)
@@ -450,6 +328,7 @@ static bool day(bool old, const char *title)
 	bool more = true, same = true;
 
 	old_rule = old;
+	quiet = old;
 	printf("%s\n\n", title);
 	prepare();
 	while (more) {
@@ -466,10 +345,11 @@ static bool day(bool old, const char *title)
 		}
 	}
 	hang_up();
-	printf("\n");
+	printf("\nat the host\n");
 	for (unsigned i = 0; i < STREAMS; i++) {
 		same = report(&streams[i]) && same;
 	}
+	printf("%s\n", same ? "depth is worked out of this pair" : "depth would be worked out of a pair that never existed");
 	return same;
 }
 
