@@ -6,12 +6,13 @@
  */
 #include "check.h"
 #include "plain.h"
+#include "xl_draw.h"
 #include "xl_face.h"
 
 #include <stdio.h>
 #include <string.h>
 
-enum { NAMED = 48, BASES = 40, NOISES = 300000, RECEIVED = 300000, STAINS = 20000 };
+enum { BASES = 40, NOISES = 300000, RECEIVED = 300000, STAINS = 20000 };
 
 static unsigned long met[STATES][NAMED]; /* steps that were taken, by state and event */
 static unsigned long answers[256];
@@ -71,60 +72,6 @@ static void expected_cell(const struct sonerwal_link *s, struct sonerwal_event e
 	}
 }
 
-/* ---- Links, frames and events */
-
-static struct sonerwal_event named[NAMED];
-
-static void name_events(void)
-{
-	size_t count = 0;
-	for (unsigned number = 0; number < 65536; number++) {
-		struct sonerwal_event e = {(uint8_t)(number / 256), (uint8_t)number};
-		if (event_word(e) && count++ < NAMED) {
-			named[count - 1] = e;
-		}
-	}
-	check(count == NAMED, "%zu events have a name", count);
-}
-
-static struct sonerwal_event draw_event(void)
-{
-	return named[noise_below(NAMED)];
-}
-
-/* A frame of OPEN's fields; waits, addresses and rates are few, so that priorities and paths often meet. */
-static struct sonerwal_open draw_open(void)
-{
-	return (struct sonerwal_open){
-		.destination = UINT64_C(0x5000C50012345678) + noise_below(3), .source = UINT64_C(0x5000C50012345678) + noise_below(3),
-		.tag = (uint16_t)noise(), .awt = (uint16_t)(noise_below(2) ? noise_below(3) : noise()),
-		.initiator = (uint8_t)noise_below(2), .protocol = (uint8_t)noise_below(3), .features = (uint8_t)noise_below(16),
-		.rate = (uint8_t)(8 + noise_below(3)), .pbc = (uint8_t)noise(),
-	};
-}
-
-static void draw_frames(struct frames *frames)
-{
-	frames->held = draw_open();
-	frames->heard = draw_open();
-	frames->event = draw_open();
-	/* apart in any case, and with anything in the members that a call does not look at */
-	frames->heard.tag = (uint16_t)(frames->held.tag + 1);
-	frames->event.tag = (uint16_t)(frames->held.tag + 2);
-	frames->event.zero4 = (uint32_t)noise();
-	frames->event.zero2 = (uint16_t)noise();
-	frames->event.zero1 = (uint8_t)noise();
-}
-
-static struct sonerwal_link draw_link(int state, const struct frames *frames)
-{
-	static const uint32_t counts[] = {0, 7, UINT32_MAX - 1, UINT32_MAX};
-	bool holds = (state >= 1 && state <= 6) || noise_below(2);
-	char memory[] = {holds ? 'h' : '-', noise_below(2) ? 'o' : '-', "-0123"[noise_below(5)], (char)('0' + noise_below(2)),
-	                 (char)('0' + noise_below(2)), (char)('0' + noise_below(2)), '\0'};
-	return link_of(state, memory, frames, counts[noise_below(4)]);
-}
-
 /* ---- One case */
 
 static void fail(const struct sonerwal_link *s, struct sonerwal_event e, const char *expected, const char *found)
@@ -151,7 +98,7 @@ static void lend(const struct sonerwal_link *s, struct sonerwal_event e, struct 
 	}
 	answers[status]++;
 	for (int i = 0; keeps_rules(s) && i < NAMED; i++) {
-		met[s->phase][i] += named[i].kind == e.kind && named[i].detail == e.detail;
+		met[s->phase][i] += named_events[i].kind == e.kind && named_events[i].detail == e.detail;
 	}
 }
 
@@ -197,14 +144,17 @@ static void noises(void)
 	failures = 0;
 	for (long i = 0; i < NOISES; i++) {
 		draw_frames(&frames);
-		struct sonerwal_link s = draw_link((int)noise_below(STATES), &frames);
+		/* half of them OPENs that cross: in XL6, or remembered in XL5 */
+		int state = (int)(i % 2 ? 5 + noise_below(2) : noise_below(STATES));
+		struct sonerwal_event e = i % 2 ? event_named(state == 6 ? "OPEN" : "Sent") : draw_event();
+		struct sonerwal_link s = draw_link(state, &frames);
 		if (noise_below(8) == 0) {
 			noise_fill(&s, sizeof s);
 		}
 		if (noise_below(4) == 0) {
 			noise_fill(&frames.event, sizeof frames.event);
 		}
-		lend(&s, draw_event(), frames);
+		lend(&s, e, frames);
 	}
 	check(failures == 0, "noise: %lu cases", failures);
 }
@@ -281,7 +231,7 @@ static void show(void)
 	}
 	for (int state = 0; state < STATES; state++) {
 		for (int i = 0; i < NAMED; i++) {
-			check(met[state][i] > 0, "no case showed: XL%d, event %d %d", state, named[i].kind, named[i].detail);
+			check(met[state][i] > 0, "no case showed: XL%d, event %d %d", state, named_events[i].kind, named_events[i].detail);
 		}
 	}
 }
@@ -289,7 +239,7 @@ static void show(void)
 int main(int argc, char **argv)
 {
 	noise_begin(argc, argv, UINT64_C(0x50C1A108));
-	name_events();
+	check(name_events() == NAMED, "not %d events have a name", NAMED);
 	all_events();
 	every_byte();
 	noises();

@@ -3,7 +3,6 @@ pub mod Balance
 mod Calls
 pub mod Examples
 pub mod Exact
-pub mod Faces
 pub mod Frames
 pub mod Leaving
 pub mod Links
@@ -12,6 +11,7 @@ pub mod LinkNumbers
 pub mod LinkRefusals
 mod Named
 mod Grounds
+pub mod PortFace
 pub mod Ports
 pub mod Printed
 pub mod Priority

@@ -7,3 +7,4 @@ pub mod FoldFrom
 pub mod Survey
 pub mod Leave
 pub mod Lent
+pub mod Plains

@@ -5,6 +5,7 @@ ghost use Rattle.sonerwal.specs.Face as face;
 
 pub mod frames;
 pub mod link;
+pub mod ports;
 pub mod transfer;
 
 // Of the archive; the header has its own.

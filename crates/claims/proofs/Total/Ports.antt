@@ -86,16 +86,34 @@ use Rattle.port.proofs.frame_status as call-frame-status
 use Rattle.port.proofs.closed as call-closed
 use Rattle.port.proofs.enable as call-enable
 use Rattle.port.proofs.disable as call-disable
-use Rattle.bench_ports.proofs.port_setup as port-setup
-use Rattle.bench_ports.proofs.port_submit as port-submit
-use Rattle.bench_ports.proofs.port_cancel as port-cancel
-use Rattle.bench_ports.proofs.port_choose as port-choose
-use Rattle.bench_ports.proofs.port_opened as port-opened
-use Rattle.bench_ports.proofs.port_open_failed as port-open-failed
-use Rattle.bench_ports.proofs.port_frame_status as port-frame-status
-use Rattle.bench_ports.proofs.port_closed as port-closed
-use Rattle.bench_ports.proofs.port_enable as port-enable
-use Rattle.bench_ports.proofs.port_disable as port-disable
+use Rattle.port_lent.proofs.port_of.Kinds as lent-port-of-of
+use Rattle.port_lent.proofs.port_of.Reads as lent-port-of
+use Rattle.port_lent.proofs.shown.Kinds as lent-shown-of
+use Rattle.port_lent.proofs.shown.Reads as lent-shown
+use Rattle.port_lent.proofs.set_up.Kinds as lent-set-up-of
+use Rattle.port_lent.proofs.set_up.Reads as lent-set-up
+use Rattle.port_lent.proofs.time_of.Kinds as lent-time-of-of
+use Rattle.port_lent.proofs.time_of.Reads as lent-time-of
+use Rattle.port_lent.proofs.submission_of.Kinds as lent-submission-of-of
+use Rattle.port_lent.proofs.submission_of.Reads as lent-submission-of
+use Rattle.port_lent.proofs.withdrawn_of.Kinds as lent-withdrawn-of-of
+use Rattle.port_lent.proofs.withdrawn_of.Reads as lent-withdrawn-of
+use Rattle.port_lent.proofs.confirmed_of.Kinds as lent-confirmed-of-of
+use Rattle.port_lent.proofs.confirmed_of.Reads as lent-confirmed-of
+use Rattle.port_lent.proofs.failure_of.Kinds as lent-failure-of-of
+use Rattle.port_lent.proofs.failure_of.Reads as lent-failure-of
+use Rattle.port_lent.proofs.report_of.Kinds as lent-report-of-of
+use Rattle.port_lent.proofs.report_of.Reads as lent-report-of
+use Rattle.sonerwal.proofs.ports.sonerwal_port_setup as face-setup
+use Rattle.sonerwal.proofs.ports.sonerwal_port_submit as face-submit
+use Rattle.sonerwal.proofs.ports.sonerwal_port_cancel as face-cancel
+use Rattle.sonerwal.proofs.ports.sonerwal_port_choose as face-choose
+use Rattle.sonerwal.proofs.ports.sonerwal_port_opened as face-opened
+use Rattle.sonerwal.proofs.ports.sonerwal_port_open_failed as face-open-failed
+use Rattle.sonerwal.proofs.ports.sonerwal_port_frame_status as face-frame-status
+use Rattle.sonerwal.proofs.ports.sonerwal_port_closed as face-closed
+use Rattle.sonerwal.proofs.ports.sonerwal_port_enable as face-enable
+use Rattle.sonerwal.proofs.ports.sonerwal_port_disable as face-disable
 use Rattle.claims.proofs.Calls.{Anything}
 use Rattle.claims.proofs.Walked.{AsksNothing}
 
@@ -148,16 +166,25 @@ pub record Ports : Type 2 where
   pub call-closed : AsksNothing call-closed.ended (λ M. call-closed.spec)
   pub call-enable : AsksNothing call-enable.ended (λ M. call-enable.spec)
   pub call-disable : AsksNothing call-disable.ended (λ M. call-disable.spec)
-  pub port-setup : AsksNothing port-setup.ended (λ M. port-setup.spec)
-  pub port-submit : AsksNothing port-submit.ended (λ M. port-submit.spec)
-  pub port-cancel : AsksNothing port-cancel.ended (λ M. port-cancel.spec)
-  pub port-choose : AsksNothing port-choose.ended (λ M. port-choose.spec)
-  pub port-opened : AsksNothing port-opened.ended (λ M. port-opened.spec)
-  pub port-open-failed : AsksNothing port-open-failed.ended (λ M. port-open-failed.spec)
-  pub port-frame-status : AsksNothing port-frame-status.ended (λ M. port-frame-status.spec)
-  pub port-closed : AsksNothing port-closed.ended (λ M. port-closed.spec)
-  pub port-enable : AsksNothing port-enable.ended (λ M. port-enable.spec)
-  pub port-disable : AsksNothing port-disable.ended (λ M. port-disable.spec)
+  pub lent-port-of : Anything 0 lent-port-of-of.ps lent-port-of.Pre
+  pub lent-shown : Anything 0 lent-shown-of.ps lent-shown.Pre
+  pub lent-set-up : Anything 0 lent-set-up-of.ps lent-set-up.Pre
+  pub lent-time-of : Anything 0 lent-time-of-of.ps lent-time-of.Pre
+  pub lent-submission-of : Anything 0 lent-submission-of-of.ps lent-submission-of.Pre
+  pub lent-withdrawn-of : Anything 0 lent-withdrawn-of-of.ps lent-withdrawn-of.Pre
+  pub lent-confirmed-of : Anything 0 lent-confirmed-of-of.ps lent-confirmed-of.Pre
+  pub lent-failure-of : Anything 0 lent-failure-of-of.ps lent-failure-of.Pre
+  pub lent-report-of : Anything 0 lent-report-of-of.ps lent-report-of.Pre
+  pub face-setup : AsksNothing face-setup.ended (λ M. face-setup.spec)
+  pub face-submit : AsksNothing face-submit.ended (λ M. face-submit.spec)
+  pub face-cancel : AsksNothing face-cancel.ended (λ M. face-cancel.spec)
+  pub face-choose : AsksNothing face-choose.ended (λ M. face-choose.spec)
+  pub face-opened : AsksNothing face-opened.ended (λ M. face-opened.spec)
+  pub face-open-failed : AsksNothing face-open-failed.ended (λ M. face-open-failed.spec)
+  pub face-frame-status : AsksNothing face-frame-status.ended (λ M. face-frame-status.spec)
+  pub face-closed : AsksNothing face-closed.ended (λ M. face-closed.spec)
+  pub face-enable : AsksNothing face-enable.ended (λ M. face-enable.spec)
+  pub face-disable : AsksNothing face-disable.ended (λ M. face-disable.spec)
 
 pub ports : Ports
 ports = record {
@@ -209,14 +236,23 @@ ports = record {
   call-closed = λ w κs a. (tt, refl);
   call-enable = λ w κs a. (tt, refl);
   call-disable = λ w κs a. (tt, refl);
-  port-setup = λ w κs a. (tt, refl);
-  port-submit = λ w κs a. (tt, refl);
-  port-cancel = λ w κs a. (tt, refl);
-  port-choose = λ w κs a. (tt, refl);
-  port-opened = λ w κs a. (tt, refl);
-  port-open-failed = λ w κs a. (tt, refl);
-  port-frame-status = λ w κs a. (tt, refl);
-  port-closed = λ w κs a. (tt, refl);
-  port-enable = λ w κs a. (tt, refl);
-  port-disable = λ w κs a. (tt, refl);
+  lent-port-of = λ κs a. tt;
+  lent-shown = λ κs a. tt;
+  lent-set-up = λ κs a. tt;
+  lent-time-of = λ κs a. tt;
+  lent-submission-of = λ κs a. tt;
+  lent-withdrawn-of = λ κs a. tt;
+  lent-confirmed-of = λ κs a. tt;
+  lent-failure-of = λ κs a. tt;
+  lent-report-of = λ κs a. tt;
+  face-setup = λ w κs a. (tt, refl);
+  face-submit = λ w κs a. (tt, refl);
+  face-cancel = λ w κs a. (tt, refl);
+  face-choose = λ w κs a. (tt, refl);
+  face-opened = λ w κs a. (tt, refl);
+  face-open-failed = λ w κs a. (tt, refl);
+  face-frame-status = λ w κs a. (tt, refl);
+  face-closed = λ w κs a. (tt, refl);
+  face-enable = λ w κs a. (tt, refl);
+  face-disable = λ w κs a. (tt, refl);
 }

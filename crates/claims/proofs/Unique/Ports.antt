@@ -88,20 +88,39 @@ use Rattle.port.proofs.frame_status as call-frame-status
 use Rattle.port.proofs.closed as call-closed
 use Rattle.port.proofs.enable as call-enable
 use Rattle.port.proofs.disable as call-disable
-use Rattle.bench_ports.proofs.port_setup as port-setup
-use Rattle.bench_ports.proofs.port_submit as port-submit
-use Rattle.bench_ports.proofs.port_cancel as port-cancel
-use Rattle.bench_ports.proofs.port_choose as port-choose
-use Rattle.bench_ports.proofs.port_opened as port-opened
-use Rattle.bench_ports.proofs.port_open_failed as port-open-failed
-use Rattle.bench_ports.proofs.port_frame_status as port-frame-status
-use Rattle.bench_ports.proofs.port_closed as port-closed
-use Rattle.bench_ports.proofs.port_enable as port-enable
-use Rattle.bench_ports.proofs.port_disable as port-disable
+use Rattle.port_lent.proofs.port_of.Kinds as lent-port-of-of
+use Rattle.port_lent.proofs.port_of.Reads as lent-port-of
+use Rattle.port_lent.proofs.shown.Kinds as lent-shown-of
+use Rattle.port_lent.proofs.shown.Reads as lent-shown
+use Rattle.port_lent.proofs.set_up.Kinds as lent-set-up-of
+use Rattle.port_lent.proofs.set_up.Reads as lent-set-up
+use Rattle.port_lent.proofs.time_of.Kinds as lent-time-of-of
+use Rattle.port_lent.proofs.time_of.Reads as lent-time-of
+use Rattle.port_lent.proofs.submission_of.Kinds as lent-submission-of-of
+use Rattle.port_lent.proofs.submission_of.Reads as lent-submission-of
+use Rattle.port_lent.proofs.withdrawn_of.Kinds as lent-withdrawn-of-of
+use Rattle.port_lent.proofs.withdrawn_of.Reads as lent-withdrawn-of
+use Rattle.port_lent.proofs.confirmed_of.Kinds as lent-confirmed-of-of
+use Rattle.port_lent.proofs.confirmed_of.Reads as lent-confirmed-of
+use Rattle.port_lent.proofs.failure_of.Kinds as lent-failure-of-of
+use Rattle.port_lent.proofs.failure_of.Reads as lent-failure-of
+use Rattle.port_lent.proofs.report_of.Kinds as lent-report-of-of
+use Rattle.port_lent.proofs.report_of.Reads as lent-report-of
+use Rattle.sonerwal.proofs.ports.sonerwal_port_setup as face-setup
+use Rattle.sonerwal.proofs.ports.sonerwal_port_submit as face-submit
+use Rattle.sonerwal.proofs.ports.sonerwal_port_cancel as face-cancel
+use Rattle.sonerwal.proofs.ports.sonerwal_port_choose as face-choose
+use Rattle.sonerwal.proofs.ports.sonerwal_port_opened as face-opened
+use Rattle.sonerwal.proofs.ports.sonerwal_port_open_failed as face-open-failed
+use Rattle.sonerwal.proofs.ports.sonerwal_port_frame_status as face-frame-status
+use Rattle.sonerwal.proofs.ports.sonerwal_port_closed as face-closed
+use Rattle.sonerwal.proofs.ports.sonerwal_port_enable as face-enable
+use Rattle.sonerwal.proofs.ports.sonerwal_port_disable as face-disable
+use Rattle.port_lent.specs.Lent as lent
 use Rattle.claims.proofs.Calls.{One, none}
 use Rattle.claims.proofs.Walked.{OneEnd}
 use Rattle.claims.proofs.Ports.{ports as port-claims}
-use Rattle.claims.proofs.Faces.{faces}
+use Rattle.claims.proofs.PortFace.{port-face}
 
 pub record Ports : Type 2 where
   pub port-no-stamp : One 0 port-no-stamp-of.ps port-no-stamp-of.r (none 0 port-no-stamp-of.ps port-no-stamp-of.r) port-no-stamp.Post
@@ -152,16 +171,25 @@ pub record Ports : Type 2 where
   pub call-closed : OneEnd call-closed.ended (λ M. call-closed.spec) (λ κs e. now (e .0))
   pub call-enable : OneEnd call-enable.ended (λ M. call-enable.spec) (λ κs e. now (e .0))
   pub call-disable : OneEnd call-disable.ended (λ M. call-disable.spec) (λ κs e. now (e .0))
-  pub port-setup : OneEnd port-setup.ended (λ M. port-setup.spec) (λ κs e. now (e .0))
-  pub port-submit : OneEnd port-submit.ended (λ M. port-submit.spec) (λ κs e. now (e .0))
-  pub port-cancel : OneEnd port-cancel.ended (λ M. port-cancel.spec) (λ κs e. now (e .0))
-  pub port-choose : OneEnd port-choose.ended (λ M. port-choose.spec) (λ κs e. now (e .0))
-  pub port-opened : OneEnd port-opened.ended (λ M. port-opened.spec) (λ κs e. now (e .0))
-  pub port-open-failed : OneEnd port-open-failed.ended (λ M. port-open-failed.spec) (λ κs e. now (e .0))
-  pub port-frame-status : OneEnd port-frame-status.ended (λ M. port-frame-status.spec) (λ κs e. now (e .0))
-  pub port-closed : OneEnd port-closed.ended (λ M. port-closed.spec) (λ κs e. now (e .0))
-  pub port-enable : OneEnd port-enable.ended (λ M. port-enable.spec) (λ κs e. now (e .0))
-  pub port-disable : OneEnd port-disable.ended (λ M. port-disable.spec) (λ κs e. now (e .0))
+  pub lent-port-of : One 0 lent-port-of-of.ps lent-port-of-of.r (none 0 lent-port-of-of.ps lent-port-of-of.r) lent-port-of.Post
+  pub lent-shown : One 0 lent-shown-of.ps lent-shown-of.r (none 0 lent-shown-of.ps lent-shown-of.r) lent-shown.Post
+  pub lent-set-up : One 0 lent-set-up-of.ps lent-set-up-of.r (none 0 lent-set-up-of.ps lent-set-up-of.r) lent-set-up.Post
+  pub lent-time-of : One 0 lent-time-of-of.ps lent-time-of-of.r (none 0 lent-time-of-of.ps lent-time-of-of.r) lent-time-of.Post
+  pub lent-submission-of : One 0 lent-submission-of-of.ps lent-submission-of-of.r (none 0 lent-submission-of-of.ps lent-submission-of-of.r) lent-submission-of.Post
+  pub lent-withdrawn-of : One 0 lent-withdrawn-of-of.ps lent-withdrawn-of-of.r (none 0 lent-withdrawn-of-of.ps lent-withdrawn-of-of.r) lent-withdrawn-of.Post
+  pub lent-confirmed-of : One 0 lent-confirmed-of-of.ps lent-confirmed-of-of.r (none 0 lent-confirmed-of-of.ps lent-confirmed-of-of.r) lent-confirmed-of.Post
+  pub lent-failure-of : One 0 lent-failure-of-of.ps lent-failure-of-of.r (none 0 lent-failure-of-of.ps lent-failure-of-of.r) lent-failure-of.Post
+  pub lent-report-of : One 0 lent-report-of-of.ps lent-report-of-of.r (none 0 lent-report-of-of.ps lent-report-of-of.r) lent-report-of.Post
+  pub face-setup : OneEnd face-setup.ended (λ M. face-setup.spec) (λ κs e. now (e .0))
+  pub face-submit : OneEnd face-submit.ended (λ M. face-submit.spec) (λ κs e. now (e .0))
+  pub face-cancel : OneEnd face-cancel.ended (λ M. face-cancel.spec) (λ κs e. now (e .0))
+  pub face-choose : OneEnd face-choose.ended (λ M. face-choose.spec) (λ κs e. now (e .0))
+  pub face-opened : OneEnd face-opened.ended (λ M. face-opened.spec) (λ κs e. now (e .0))
+  pub face-open-failed : OneEnd face-open-failed.ended (λ M. face-open-failed.spec) (λ κs e. now (e .0))
+  pub face-frame-status : OneEnd face-frame-status.ended (λ M. face-frame-status.spec) (λ κs e. now (e .0))
+  pub face-closed : OneEnd face-closed.ended (λ M. face-closed.spec) (λ κs e. now (e .0))
+  pub face-enable : OneEnd face-enable.ended (λ M. face-enable.spec) (λ κs e. now (e .0))
+  pub face-disable : OneEnd face-disable.ended (λ M. face-disable.spec) (λ κs e. now (e .0))
 
 pub ports : Ports
 ports = record {
@@ -213,14 +241,23 @@ ports = record {
   call-closed = (_, (port-claims .call-closed, λ κs a x y s t p q. (p .0 ∙ sym (q .0), p .1 ∙ sym (q .1))));
   call-enable = (_, (port-claims .call-enable, λ κs a x y s t p q. (p .0 ∙ sym (q .0), p .1 ∙ sym (q .1))));
   call-disable = (_, (port-claims .call-disable, λ κs a x y s t p q. (p .0 ∙ sym (q .0), p .1 ∙ sym (q .1))));
-  port-setup = (_, (faces .port-setup noPort, λ κs a x y s t p q. (p .0 ∙ sym (q .0), p .1 ∙ sym (q .1))));
-  port-submit = (_, (faces .port-submit, λ κs a x y s t p q. (p .0 ∙ sym (q .0), p .1 ∙ sym (q .1))));
-  port-cancel = (_, (faces .port-cancel, λ κs a x y s t p q. (p .0 ∙ sym (q .0), p .1 ∙ sym (q .1))));
-  port-choose = (_, (faces .port-choose, λ κs a x y s t p q. (p .0 ∙ sym (q .0), p .1 ∙ sym (q .1))));
-  port-opened = (_, (faces .port-opened, λ κs a x y s t p q. (p .0 ∙ sym (q .0), p .1 ∙ sym (q .1))));
-  port-open-failed = (_, (faces .port-open-failed, λ κs a x y s t p q. (p .0 ∙ sym (q .0), p .1 ∙ sym (q .1))));
-  port-frame-status = (_, (faces .port-frame-status, λ κs a x y s t p q. (p .0 ∙ sym (q .0), p .1 ∙ sym (q .1))));
-  port-closed = (_, (faces .port-closed, λ κs a x y s t p q. (p .0 ∙ sym (q .0), p .1 ∙ sym (q .1))));
-  port-enable = (_, (faces .port-enable, λ κs a x y s t p q. (p .0 ∙ sym (q .0), p .1 ∙ sym (q .1))));
-  port-disable = (_, (faces .port-disable, λ κs a x y s t p q. (p .0 ∙ sym (q .0), p .1 ∙ sym (q .1))));
+  lent-port-of = λ κs a x y s t p q. (p ∙ sym q, refl);
+  lent-shown = λ κs a x y s t p q. (p ∙ sym q, refl);
+  lent-set-up = λ κs a x y s t p q. (p ∙ sym q, refl);
+  lent-time-of = λ κs a x y s t p q. (p ∙ sym q, refl);
+  lent-submission-of = λ κs a x y s t p q. (p ∙ sym q, refl);
+  lent-withdrawn-of = λ κs a x y s t p q. (p ∙ sym q, refl);
+  lent-confirmed-of = λ κs a x y s t p q. (p ∙ sym q, refl);
+  lent-failure-of = λ κs a x y s t p q. (p ∙ sym q, refl);
+  lent-report-of = λ κs a x y s t p q. (p ∙ sym q, refl);
+  face-setup = (_, (port-face .face-setup lent.noPort, λ κs a x y s t p q. (p .0 ∙ sym (q .0), p .1 ∙ sym (q .1))));
+  face-submit = (_, (port-face .face-submit, λ κs a x y s t p q. (p .0 ∙ sym (q .0), p .1 ∙ sym (q .1))));
+  face-cancel = (_, (port-face .face-cancel, λ κs a x y s t p q. (p .0 ∙ sym (q .0), p .1 ∙ sym (q .1))));
+  face-choose = (_, (port-face .face-choose, λ κs a x y s t p q. (p .0 ∙ sym (q .0), p .1 ∙ sym (q .1))));
+  face-opened = (_, (port-face .face-opened, λ κs a x y s t p q. (p .0 ∙ sym (q .0), p .1 ∙ sym (q .1))));
+  face-open-failed = (_, (port-face .face-open-failed, λ κs a x y s t p q. (p .0 ∙ sym (q .0), p .1 ∙ sym (q .1))));
+  face-frame-status = (_, (port-face .face-frame-status, λ κs a x y s t p q. (p .0 ∙ sym (q .0), p .1 ∙ sym (q .1))));
+  face-closed = (_, (port-face .face-closed, λ κs a x y s t p q. (p .0 ∙ sym (q .0), p .1 ∙ sym (q .1))));
+  face-enable = (_, (port-face .face-enable, λ κs a x y s t p q. (p .0 ∙ sym (q .0), p .1 ∙ sym (q .1))));
+  face-disable = (_, (port-face .face-disable, λ κs a x y s t p q. (p .0 ∙ sym (q .0), p .1 ∙ sym (q .1))));
 }

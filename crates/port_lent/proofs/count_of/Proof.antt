@@ -1,0 +1,18 @@
+-- The count is looked at where the port is well formed. Assumes nothing.
+use mathlib.Core.Bool.{cond}
+use mathlib.Core.Path.{sym, ap, _∙_}
+use borrow.Author.Needs.{needs}
+use Rattle.port_lent.proofs.count_of.Statement.{statement}
+use Rattle.port_lent.proofs.count_of.Tie as tie
+
+formed-requires : tie.Need-formed-requires
+formed-requires c κs = search needs
+
+returns : tie.Need-returns
+returns c = rw (← c .before .formed .ensures, c .if1 .taken)
+
+returns-2 : tie.Need-returns-2
+returns-2 c = rw (← c .before .formed .ensures, c .if1 .left)
+
+pub count-of-spec : {M : Type 1} → statement M
+count-of-spec = tie.close (tie.spec formed-requires returns returns-2)
