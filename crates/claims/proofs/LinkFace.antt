@@ -46,7 +46,7 @@ use Rattle.xl_lent.specs.Typed.{typedLink, typedState, blockedLink, blockedStat
 use Rattle.xl_lent.proofs.Says.{formed-says}
 use Rattle.xl_lent.proofs.Trips.{state-back, narrow, shown-formed, lent-back, actions-back, zeros-ready, ready-zeros, typed-says, blocked-says, closed-says}
 use Rattle.xl_lent.proofs.Laws.{status-formed}
-use Rattle.xl_lent.proofs.Causes.{metCauses, receiveCauses, statusCauses, met-is, receive-is, status-is}
+use Rattle.xl_lent.proofs.Causes.{keptCauses, metCauses, receiveCauses, met-is, receive-is, status-is}
 use Rattle.xl_calls.specs.Links.{Call, event, bytes, callOf, run, surprises, listOf}
 use Rattle.xl_calls.specs.After.{after}
 use Rattle.xl_calls.specs.Faces.{FaceCall, faceOf, faceRun, makes, made}
@@ -165,7 +165,7 @@ event-refuses l c o = by (eventOf c) refl
         (told l (done (takes f e (stateOf l)))) (linkEvent l c o) refl (ap (λ (r : EventRead). heard l r o) q ∙ met-is l e f)
     by EventRead.Unnamed q =
         let none = unnamed-is c q in
-        refuses l ((Refusal.Unlisted when true) ∷ (Refusal.Unlisted when false) ∷ (Refusal.Rules when not (keepsLent l)) ∷ []) (eventGrounds l c o)
+        refuses l ((Refusal.Unlisted when true) ∷ (Refusal.Unlisted when false) ∷ keptCauses l) (eventGrounds l c o)
         (cons (λ e. none, λ h. refl) (cons (impossible, λ h. absurd (carries-none c none (h .0))) (cons (broken l) nil)))
         (told l (done (takes (frameOf o) Event.Disable (stateOf l)))) (linkEvent l c o) refl (ap (λ (r : EventRead). heard l r o) q)
 

@@ -31,15 +31,18 @@ use Rattle.xl_lent.specs.declared.Step.{Step}
 use Rattle.xl_lent.specs.Lent.{stateOf, formed}
 use Rattle.xl_lent.specs.Face.{refused, told, met, opened, linkReceive, linkStatus, keepsLent}
 
--- 01 REFUSAL.2 01 REFUSAL.3
+-- 01 REFUSAL.3
+-- that the rules are kept is all that the status asks, and the last thing that the others ask
+abbrev pub keptCauses : Link → List Cause
+keptCauses l = (Refusal.Rules when not (keepsLent l)) ∷ []
+
+-- 01 REFUSAL.2
 abbrev pub metCauses : Link → Event → OpenFrame → List Cause
-metCauses l e f = (Refusal.Unlisted when (hasFrame e && not (headListed (f .head)))) ∷ (Refusal.Rules when not (keepsLent l)) ∷ []
+metCauses l e f = (Refusal.Unlisted when (hasFrame e && not (headListed (f .head)))) ∷ keptCauses l
 
+-- 01 XL.6
 abbrev pub receiveCauses : Link → List ℕ → List Cause
-receiveCauses l b = readCauses b ++ ((Refusal.Rules when not (keepsLent l)) ∷ [])
-
-abbrev pub statusCauses : Link → List Cause
-statusCauses l = (Refusal.Rules when not (keepsLent l)) ∷ []
+receiveCauses l b = readCauses b ++ keptCauses l
 
 -- what is tested twice is tested once, and two tests for one refusal are one
 joined : {A : Type 0} (t f k : Bool) (two three a : A) → cond t two (cond (not f) three (cond t two (cond (not k) three a))) ≡ cond t two (cond (not (f && k)) three a)
@@ -65,11 +68,11 @@ receive-is l b =
     let d = told l (done (takes f e (stateOf l))) in
     let listed = typed b && headListed (headOf b) in
     through (opened l) OpenRead.Refused (readCauses b) (OpenRead.Frame f)
-    ∙ on-false (not (eqb (length b) 28)) (refused l Refusal.Length) (refuse (refused l) ((Refusal.Unlisted when not listed) ∷ []) (met l e f)) (refuse (refused l) ((Refusal.Unlisted when not listed) ∷ statusCauses l) d)
-    (λ _. on-false (not listed) (refused l Refusal.Unlisted) (met l e f) (refuse (refused l) (statusCauses l) d)
-    (λ off. met-is l e f ∙ ap (λ (t : Bool). refuse (refused l) ((Refusal.Unlisted when not t) ∷ statusCauses l) d) (and-right (typed b) _ (not-false listed off))))
+    ∙ on-false (not (eqb (length b) 28)) (refused l Refusal.Length) (refuse (refused l) ((Refusal.Unlisted when not listed) ∷ []) (met l e f)) (refuse (refused l) ((Refusal.Unlisted when not listed) ∷ keptCauses l) d)
+    (λ _. on-false (not listed) (refused l Refusal.Unlisted) (met l e f) (refuse (refused l) (keptCauses l) d)
+    (λ off. met-is l e f ∙ ap (λ (t : Bool). refuse (refused l) ((Refusal.Unlisted when not t) ∷ keptCauses l) d) (and-right (typed b) _ (not-false listed off))))
 
-pub status-is : (l : Link) → linkStatus l ≡ refuse numberOf (statusCauses l) (statusNumber (inPhase (stateOf l .phase) (stateOf l .memory .aip)))
+pub status-is : (l : Link) → linkStatus l ≡ refuse numberOf (keptCauses l) (statusNumber (inPhase (stateOf l .phase) (stateOf l .memory .aip)))
 unfolding linkStatus statusOf keepsLent
 status-is l =
     let s = stateOf l in
