@@ -57,12 +57,12 @@ static double ratio(const struct row *row)
 static int show(const struct bench *bench)
 {
 	int missed = 0;
-	printf("%-20s %10s %10s %8s  at most %.2f\n", bench->head, "plain, ns", "ours, ns", "ratio", bench->goal);
+	printf("%-24s %10s %10s %8s  at most %.2f\n", bench->head, "plain, ns", "ours, ns", "ratio", bench->goal);
 	for (size_t i = 0; i < bench->count; i++) {
 		const struct row *row = &bench->rows[i];
 		int misses = ratio(row) > bench->goal;
 		missed += misses;
-		printf("%-20s %10.2f %10.2f %8.2f  %s\n", row->name, row->best[PLAIN], row->best[OURS], ratio(row),
+		printf("%-24s %10.2f %10.2f %8.2f  %s\n", row->name, row->best[PLAIN], row->best[OURS], ratio(row),
 		       misses ? "no" : "yes");
 	}
 	return missed;
@@ -81,4 +81,17 @@ int compare(const struct bench *bench, int argc, char **argv)
 		printf("goal %.2f: missed by %d of %d ratios\n", bench->goal, missed, (int)bench->count);
 	}
 	return strict && missed ? EXIT_FAILURE : EXIT_SUCCESS;
+}
+
+void show_crossing(const char *whose, uint64_t (*many)(void), unsigned calls)
+{
+	double best = 0;
+	volatile uint64_t sum = 0;
+	for (int round = 0; round < ROUNDS; round++) {
+		double start = nanoseconds();
+		sum += many();
+		double each = (nanoseconds() - start) / calls;
+		best = best == 0 || each < best ? each : best;
+	}
+	printf("crossing, ns: %.2f of a %s call in plain C that only takes the state and gives it back\n", best, whose);
 }

@@ -30,4 +30,7 @@ struct bench {
 /* Measures every row and shows the table; gives the program's status, with --strict 1 if a ratio is above the goal. */
 int compare(const struct bench *bench, int argc, char **argv);
 
+/* Measures a plain call that hands a state over and back, which is part of both sides' times, and shows it. */
+void show_crossing(const char *whose, uint64_t (*many)(void), unsigned calls);
+
 #endif

@@ -1,5 +1,5 @@
 /*
- * The four calls of libsonerwal.a against plain C, in nanoseconds for one call.
+ * The four frame calls of libsonerwal.a against plain C, in nanoseconds for one call.
  *
  * Usage: frames [--strict]        --strict: exit 1 if a ratio is above the goal
  *
@@ -20,29 +20,29 @@ enum {
 };
 
 struct coder {
-	__typeof__(sas_open_read) *open_read;
-	__typeof__(sas_open_write) *open_write;
-	__typeof__(sas_data_read) *data_read;
-	__typeof__(sas_data_write) *data_write;
+	__typeof__(sonerwal_open_read) *open_read;
+	__typeof__(sonerwal_open_write) *open_write;
+	__typeof__(sonerwal_data_read) *data_read;
+	__typeof__(sonerwal_data_write) *data_write;
 };
 
 static const struct coder coders[SIDES] = {
 	[PLAIN] = {plain_open_read, plain_open_write, plain_data_read, plain_data_write},
-	[OURS] = {sas_open_read, sas_open_write, sas_data_read, sas_data_write},
+	[OURS] = {sonerwal_open_read, sonerwal_open_write, sonerwal_data_read, sonerwal_data_write},
 };
 
 struct input {
-	struct sas_open open;
-	struct sas_data data;
-	uint8_t open_frame[SAS_OPEN_SIZE];
-	uint8_t data_frame[SAS_DATA_SIZE_MAX];
-	uint8_t body[SAS_DATA_BODY_MAX];
+	struct sonerwal_open open;
+	struct sonerwal_data data;
+	uint8_t open_frame[SONERWAL_OPEN_SIZE];
+	uint8_t data_frame[SONERWAL_DATA_SIZE_MAX];
+	uint8_t body[SONERWAL_DATA_BODY_MAX];
 };
 
 struct result {
-	struct sas_open open;
-	struct sas_data data;
-	uint8_t frame[SAS_DATA_SIZE_MAX];
+	struct sonerwal_open open;
+	struct sonerwal_data data;
+	uint8_t frame[SONERWAL_DATA_SIZE_MAX];
 };
 
 static struct input inputs[INPUTS];
@@ -59,7 +59,7 @@ static uint64_t noise(void)
 
 static void prepare_open(struct input *in)
 {
-	in->open = (struct sas_open){
+	in->open = (struct sonerwal_open){
 		.initiator = (uint8_t)(noise() % 2),
 		.protocol = (uint8_t)(noise() % 3),
 		.features = (uint8_t)(noise() % 16),
@@ -70,14 +70,14 @@ static void prepare_open(struct input *in)
 		.pbc = (uint8_t)noise(),
 		.awt = (uint16_t)noise(),
 	};
-	sas_open_put(&in->open, in->open_frame, sizeof in->open_frame);
+	sonerwal_open_put(&in->open, in->open_frame, sizeof in->open_frame);
 }
 
 static void prepare_data(struct input *in, size_t body_len)
 {
-	in->data = (struct sas_data){
-		.hashed_destination = (uint32_t)noise() & SAS_HASHED_ADDRESS_MAX,
-		.hashed_source = (uint32_t)noise() & SAS_HASHED_ADDRESS_MAX,
+	in->data = (struct sonerwal_data){
+		.hashed_destination = (uint32_t)noise() & SONERWAL_HASHED_ADDRESS_MAX,
+		.hashed_source = (uint32_t)noise() & SONERWAL_HASHED_ADDRESS_MAX,
 		.changing = (uint8_t)(noise() % 2),
 		.tag = (uint16_t)noise(),
 		.offset = (uint32_t)noise(),
@@ -86,7 +86,7 @@ static void prepare_data(struct input *in, size_t body_len)
 	for (size_t i = 0; i < body_len; i++) {
 		in->body[i] = (uint8_t)noise();
 	}
-	sas_data_put(&in->data, in->body, in->data_frame, sizeof in->data_frame);
+	sonerwal_data_put(&in->data, in->body, in->data_frame, sizeof in->data_frame);
 }
 
 static void prepare(size_t body_len)
@@ -102,30 +102,30 @@ static void prepare(size_t body_len)
 
 static uint8_t open_read(const struct coder *coder, const struct input *in, struct result *out)
 {
-	struct sas_open *o = &out->open;
+	struct sonerwal_open *o = &out->open;
 	return coder->open_read(in->open_frame, sizeof in->open_frame, &o->initiator, &o->protocol, &o->features,
 	                        &o->rate, &o->tag, &o->destination, &o->source, &o->pbc, &o->awt);
 }
 
 static uint8_t open_write(const struct coder *coder, const struct input *in, struct result *out)
 {
-	const struct sas_open *o = &in->open;
+	const struct sonerwal_open *o = &in->open;
 	return coder->open_write(o->initiator, o->protocol, o->features, o->rate, o->tag, o->destination, o->source,
-	                         o->pbc, o->awt, out->frame, SAS_OPEN_SIZE);
+	                         o->pbc, o->awt, out->frame, SONERWAL_OPEN_SIZE);
 }
 
 static uint8_t data_read(const struct coder *coder, const struct input *in, struct result *out)
 {
-	struct sas_data *d = &out->data;
-	return coder->data_read(in->data_frame, sas_data_size(in->data.length), &d->hashed_destination,
+	struct sonerwal_data *d = &out->data;
+	return coder->data_read(in->data_frame, sonerwal_data_size(in->data.length), &d->hashed_destination,
 	                        &d->hashed_source, &d->changing, &d->tag, &d->offset, &d->length);
 }
 
 static uint8_t data_write(const struct coder *coder, const struct input *in, struct result *out)
 {
-	const struct sas_data *d = &in->data;
+	const struct sonerwal_data *d = &in->data;
 	return coder->data_write(d->hashed_destination, d->hashed_source, d->changing, d->tag, d->offset, in->body,
-	                         d->length, out->frame, sas_data_size(d->length));
+	                         d->length, out->frame, sonerwal_data_size(d->length));
 }
 
 /* ---- Rows */

@@ -1,269 +1,267 @@
-#include "links.h"
+#include "plain_links.h"
 
 #include <stdbool.h>
 
 /* Document 01, 'XL', as a table of rows that one function walks, with the state changed in place. */
 
-enum { STATES = 11, KINDS = 23 };
-
-enum kind {
-	OPEN, OPEN_ACCEPT, OPEN_REJECT, AIP, CLOSE,
-	SEND_OPEN, SEND_CLOSE, ARB_STATUS, ROUTED_ACCEPT, ROUTED_REJECT, BACKOFF_RETRY, BACKOFF_REVERSE,
-	ARB_WON, ARB_LOST, ARB_REJECT, ARBITRATING,
-	PATH_TIMER, SENT, FORWARDED,
-	BREAK, SEND_BREAK, BREAK_TIMEOUT, DISABLE
-};
-
-enum act { NONE, TRANSMIT, SEND, REQUEST_PATH, BREAKING };
-
-enum what { W_OPEN, W_ACCEPT, W_REJECT, W_AIP, W_CLOSE, W_STATUS, W_RETRY, W_REVERSE };
-
-struct action {
-	uint8_t act, what, detail;
-};
-
-struct open {
-	uint8_t initiator, protocol, features, rate;
-	uint16_t tag;
-	uint64_t destination, source;
-	uint8_t pbc;
-	uint16_t awt;
-};
-
-struct link {
-	uint8_t state;
-	bool holds, hears, broke, closed, blocked;
-	uint8_t aip; /* 0 none, else its kind and 1 */
-	uint32_t count;
-	struct open held, heard;
-};
-
-struct event {
-	uint8_t kind, detail;
-};
+enum { STATES = 11, KINDS = 64 };
 
 /* What is done besides going on to another state. */
-enum op { KEEP, HOLD, HEAR, SEE, NOTE_BREAK, NOTE_CLOSE, NOTE_BLOCKED, TIMER, FORWARD, CROSS, SENT5, CLOSE7 };
+enum op { KEEP, HOLD, HEAR, SEE, NOTE_BREAK, NOTE_CLOSE, NOTE_BLOCKED, TIMER, FORWARD, CROSS, SENT_IN_5, CLOSE_IN_7 };
 
 enum { STAY = 15 };
 
 struct row {
-	uint8_t listed, op, to;
-	struct action action;
+	uint8_t listed, op, to, action;
 };
+
+/* The names without what they all begin with, so that a row is a line. */
+#define ON(kind) [SONERWAL_KIND_##kind]
+#define DO(kind) SONERWAL_KIND_##kind
 
 static const struct row table[STATES][KINDS] = {
-	[0] = {[OPEN] = {1, HOLD, 1, {0}}, [SEND_OPEN] = {1, HOLD, 5, {TRANSMIT, W_OPEN, 0}}},
-	[1] = {[ARB_WON] = {1, KEEP, 2, {SEND, W_OPEN, 0}}, [ARB_LOST] = {1, KEEP, 0, {0}},
-	       [ARB_REJECT] = {1, KEEP, 4, {TRANSMIT, W_REJECT, 0}}, [ARBITRATING] = {1, NOTE_BLOCKED, STAY, {TRANSMIT, W_AIP, 0}},
-	       [PATH_TIMER] = {1, TIMER, STAY, {0}}, [BREAK] = {1, KEEP, 9, {0}}},
-	[2] = {[BREAK] = {1, NOTE_BREAK, STAY, {0}}, [FORWARDED] = {1, FORWARD, 3, {0}}},
-	[3] = {[ARB_STATUS] = {1, SEE, STAY, {TRANSMIT, W_AIP, 0}}, [ROUTED_ACCEPT] = {1, KEEP, 7, {TRANSMIT, W_ACCEPT, 0}},
-	       [ROUTED_REJECT] = {1, KEEP, 0, {TRANSMIT, W_REJECT, 0}}, [BACKOFF_RETRY] = {1, KEEP, 1, {0}},
-	       [BACKOFF_REVERSE] = {1, HOLD, 5, {TRANSMIT, W_OPEN, 0}}, [BREAK] = {1, KEEP, 9, {BREAKING, 1, 0}},
-	       [SEND_BREAK] = {1, KEEP, 10, {0}}},
-	[4] = {[SENT] = {1, KEEP, 0, {0}}},
-	[5] = {[OPEN] = {1, HEAR, STAY, {0}}, [BREAK] = {1, NOTE_BREAK, STAY, {0}}, [SENT] = {1, SENT5, 6, {SEND, W_STATUS, 3}}},
-	[6] = {[OPEN_ACCEPT] = {1, KEEP, 7, {SEND, W_ACCEPT, 0}}, [OPEN_REJECT] = {1, KEEP, 0, {SEND, W_REJECT, 0}},
-	       [AIP] = {1, SEE, STAY, {SEND, W_STATUS, 0}}, [OPEN] = {1, CROSS, STAY, {0}},
-	       [BREAK] = {1, KEEP, 9, {BREAKING, 1, 0}}, [SEND_BREAK] = {1, KEEP, 10, {0}}},
-	[7] = {[CLOSE] = {1, NOTE_CLOSE, STAY, {SEND, W_CLOSE, 0}}, [SEND_CLOSE] = {1, CLOSE7, 8, {TRANSMIT, W_CLOSE, 0}},
-	       [BREAK] = {1, KEEP, 9, {BREAKING, 1, 0}}, [SEND_BREAK] = {1, KEEP, 10, {0}}},
-	[8] = {[CLOSE] = {1, KEEP, 0, {SEND, W_CLOSE, 0}}, [BREAK] = {1, KEEP, 9, {BREAKING, 1, 0}},
-	       [SEND_BREAK] = {1, KEEP, 10, {0}}},
-	[9] = {[SENT] = {1, KEEP, 0, {0}}},
-	[10] = {[BREAK] = {1, KEEP, 0, {0}}, [BREAK_TIMEOUT] = {1, KEEP, 0, {0}}},
+	[0] = {ON(OPEN) = {1, HOLD, 1, 0}, ON(SEND_OPEN) = {1, HOLD, 5, DO(OPEN)}},
+	[1] = {ON(ARB_WON) = {1, KEEP, 2, DO(SEND_OPEN)}, ON(ARB_LOST) = {1, KEEP, 0, 0},
+	       ON(ARB_REJECT) = {1, KEEP, 4, DO(OPEN_REJECT)}, ON(ARBITRATING) = {1, NOTE_BLOCKED, STAY, DO(AIP)},
+	       ON(PATH_TIMER) = {1, TIMER, STAY, 0}, ON(BREAK) = {1, KEEP, 9, 0}},
+	[2] = {ON(BREAK) = {1, NOTE_BREAK, STAY, 0}, ON(FORWARDED) = {1, FORWARD, 3, 0}},
+	[3] = {ON(ARB_STATUS) = {1, SEE, STAY, DO(AIP)}, ON(ROUTER_OPEN_ACCEPT) = {1, KEEP, 7, DO(OPEN_ACCEPT)},
+	       ON(ROUTER_OPEN_REJECT) = {1, KEEP, 0, DO(OPEN_REJECT)}, ON(BACKOFF_RETRY) = {1, KEEP, 1, 0},
+	       ON(BACKOFF_REVERSE_PATH) = {1, HOLD, 5, DO(OPEN)}, ON(BREAK) = {1, KEEP, 9, DO(SEND_BREAK)},
+	       ON(SEND_BREAK) = {1, KEEP, 10, 0}},
+	[4] = {ON(SENT) = {1, KEEP, 0, 0}},
+	[5] = {ON(OPEN) = {1, HEAR, STAY, 0}, ON(BREAK) = {1, NOTE_BREAK, STAY, 0}, ON(SENT) = {1, SENT_IN_5, 6, 0}},
+	[6] = {ON(OPEN_ACCEPT) = {1, KEEP, 7, DO(ROUTER_OPEN_ACCEPT)}, ON(OPEN_REJECT) = {1, KEEP, 0, DO(ROUTER_OPEN_REJECT)},
+	       ON(AIP) = {1, SEE, STAY, DO(ARB_STATUS)}, ON(OPEN) = {1, CROSS, STAY, 0},
+	       ON(BREAK) = {1, KEEP, 9, DO(SEND_BREAK)}, ON(SEND_BREAK) = {1, KEEP, 10, 0}},
+	[7] = {ON(CLOSE) = {1, NOTE_CLOSE, STAY, DO(SEND_CLOSE)}, ON(SEND_CLOSE) = {1, CLOSE_IN_7, 8, DO(CLOSE)},
+	       ON(BREAK) = {1, KEEP, 9, DO(SEND_BREAK)}, ON(SEND_BREAK) = {1, KEEP, 10, 0}},
+	[8] = {ON(CLOSE) = {1, KEEP, 0, DO(SEND_CLOSE)}, ON(BREAK) = {1, KEEP, 9, DO(SEND_BREAK)}, ON(SEND_BREAK) = {1, KEEP, 10, 0}},
+	[9] = {ON(SENT) = {1, KEEP, 0, 0}},
+	[10] = {ON(BREAK) = {1, KEEP, 0, 0}, ON(BREAK_TIMEOUT) = {1, KEEP, 0, 0}},
 };
 
-struct answer {
-	uint8_t refusal, count;
-	struct action actions[4];
+/* How many details an event of each kind has; 0 where there is no such event. */
+static const uint8_t details[KINDS] = {
+	ON(OPEN) = 1, ON(OPEN_ACCEPT) = 1, ON(OPEN_REJECT) = 8, ON(AIP) = 4, ON(CLOSE) = 1, ON(BREAK) = 1, ON(SEND_OPEN) = 1,
+	ON(SEND_CLOSE) = 1, ON(SEND_BREAK) = 1, ON(ARB_STATUS) = 4, ON(ROUTER_OPEN_ACCEPT) = 1, ON(ROUTER_OPEN_REJECT) = 8,
+	ON(BACKOFF_RETRY) = 1, ON(BACKOFF_REVERSE_PATH) = 1, ON(ARB_WON) = 1, ON(ARB_LOST) = 1, ON(ARB_REJECT) = 4,
+	ON(ARBITRATING) = 3, ON(PATH_TIMER) = 1, ON(SENT) = 1, ON(FORWARDED) = 1, ON(BREAK_TIMEOUT) = 1, ON(DISABLE) = 1,
 };
 
-static void add(struct answer *answer, uint8_t act, uint8_t what, uint8_t detail)
-{
-	if (act != NONE) {
-		answer->actions[answer->count++] = (struct action){act, what, detail};
-	}
-}
+static const uint8_t reject_for[4] = {SONERWAL_REJECT_NO_DESTINATION, SONERWAL_REJECT_BAD_DESTINATION,
+                                      SONERWAL_REJECT_CONNECTION_RATE, SONERWAL_REJECT_PATHWAY_BLOCKED};
 
-static void enter(struct link *link, uint8_t state, struct answer *answer)
-{
-	link->state = state;
-	switch (state) {
-	case 0:
-		link->holds = link->hears = link->broke = link->closed = link->blocked = false;
-		link->aip = 0;
-		break;
-	case 1:
-		link->broke = link->blocked = false;
-		link->aip = 0;
-		add(answer, REQUEST_PATH, 0, 0);
-		add(answer, TRANSMIT, W_AIP, 0);
-		break;
-	case 2:
-		link->broke = false;
-		link->aip = 0;
-		break;
-	case 5:
-		link->hears = link->broke = false;
-		link->aip = 0;
-		break;
-	case 9:
-	case 10:
-		add(answer, BREAKING, 0, 0);
-		break;
-	default:
-		break;
-	}
-}
+static const struct sonerwal_open no_frame;
 
-static bool higher(const struct open *f, const struct open *g)
-{
-	return f->awt > g->awt || (f->awt == g->awt && f->source > g->source);
-}
+/* ---- The tests */
 
-static void cross(struct link *link, const struct open *open, struct answer *answer)
-{
-	if (link->aip == 0 && !higher(open, &link->held)) {
-		return;
-	}
-	bool back = open->destination == link->held.source && open->rate == link->held.rate;
-	link->held = *open;
-	add(answer, SEND, back ? W_REVERSE : W_RETRY, 0);
-	enter(link, back ? 2 : 1, answer);
-}
-
-static bool listed(const struct open *open)
+static bool listed(const struct sonerwal_open *open)
 {
 	return open->initiator < 2 && open->protocol < 3 && open->features < 16 && open->rate >= 8 && open->rate < 11;
 }
 
-static bool keeps_rules(const struct link *link)
+static bool unused(const struct sonerwal_open *open)
 {
-	return (!link->holds || listed(&link->held)) && (!link->hears || listed(&link->heard)) &&
-	       (link->state < 1 || link->state > 6 || link->holds);
+	return (open->destination | open->source | open->zero4 | open->tag | open->awt | open->zero2 | open->initiator |
+	        open->protocol | open->features | open->rate | open->pbc | open->zero1) == 0;
+}
+
+/* A frame of a lent link, with the byte that says whether it is there. */
+static bool frame_fits(uint8_t has, const struct sonerwal_open *open)
+{
+	if (has > 1 || (open->zero4 | open->zero2 | open->zero1) != 0) {
+		return false;
+	}
+	return has ? listed(open) : unused(open);
+}
+
+static bool keeps_rules(const struct sonerwal_link *s)
+{
+	return s->phase < STATES && s->aip <= 4 && (s->broke | s->close | s->blocked) <= 1 && (s->zero4 | s->zero1) == 0 &&
+	       frame_fits(s->has_held, &s->held) && frame_fits(s->has_heard, &s->heard) &&
+	       (s->phase < 1 || s->phase > 6 || s->has_held);
 }
 
 static bool brings_frame(uint8_t kind)
 {
-	return kind == OPEN || kind == SEND_OPEN || kind == BACKOFF_REVERSE;
+	return kind == SONERWAL_KIND_OPEN || kind == SONERWAL_KIND_SEND_OPEN || kind == SONERWAL_KIND_BACKOFF_REVERSE_PATH;
 }
 
-static void sent_in_5(struct link *link, struct answer *answer)
+static bool named(struct sonerwal_event e, const struct sonerwal_open *frame)
 {
-	bool broke = link->broke, hears = link->hears;
-	link->broke = link->hears = false;
-	link->state = 6;
+	return e.kind < KINDS && e.detail < details[e.kind] && (!brings_frame(e.kind) || listed(frame));
+}
+
+/* ---- The step */
+
+struct doing {
+	struct sonerwal_link_step *step;
+	int count;
+};
+
+static void add(struct doing *doing, uint8_t kind, uint8_t detail)
+{
+	if (kind != SONERWAL_KIND_NONE) {
+		doing->step->action[doing->count++] = (struct sonerwal_action){kind, detail};
+	}
+}
+
+static void enter(struct sonerwal_link *s, uint8_t state, struct doing *doing)
+{
+	s->phase = state;
+	switch (state) {
+	case 0:
+		*s = (struct sonerwal_link){.unexpected = s->unexpected};
+		break;
+	case 1:
+		s->broke = s->blocked = s->aip = 0;
+		add(doing, SONERWAL_KIND_REQUEST_PATH, 0);
+		add(doing, SONERWAL_KIND_AIP, SONERWAL_WAIT_NORMAL);
+		break;
+	case 2:
+		s->broke = s->aip = 0;
+		break;
+	case 5:
+		s->has_heard = s->broke = s->aip = 0;
+		s->heard = no_frame;
+		break;
+	case 9:
+	case 10:
+		add(doing, SONERWAL_KIND_BREAK, 0);
+		break;
+	default:
+		break;
+	}
+}
+
+static bool higher(const struct sonerwal_open *f, const struct sonerwal_open *g)
+{
+	return f->awt > g->awt || (f->awt == g->awt && f->source > g->source);
+}
+
+static void cross(struct sonerwal_link *s, const struct sonerwal_open *open, struct doing *doing)
+{
+	if (s->aip == 0 && !higher(open, &s->held)) {
+		return;
+	}
+	bool back = open->destination == s->held.source && open->rate == s->held.rate;
+	s->held = *open;
+	add(doing, back ? SONERWAL_KIND_BACKOFF_REVERSE_PATH : SONERWAL_KIND_BACKOFF_RETRY, 0);
+	enter(s, back ? 2 : 1, doing);
+}
+
+static void sent_in_5(struct sonerwal_link *s, struct doing *doing)
+{
+	struct sonerwal_open heard = s->heard;
+	bool broke = s->broke, has_heard = s->has_heard;
+	s->broke = s->has_heard = 0;
+	s->heard = no_frame;
+	s->phase = 6;
+	add(doing, SONERWAL_KIND_ARB_STATUS, SONERWAL_WAIT_DEVICE);
 	if (broke) {
-		add(answer, BREAKING, 1, 0);
-		enter(link, 9, answer);
-	} else if (hears) {
-		struct open heard = link->heard;
-		cross(link, &heard, answer);
+		add(doing, SONERWAL_KIND_SEND_BREAK, 0);
+		enter(s, 9, doing);
+	} else if (has_heard) {
+		cross(s, &heard, doing);
 	}
 }
 
-static struct answer step(struct link *link, struct event event, const struct open *open)
+static void take(struct sonerwal_link *s, struct sonerwal_event e, const struct sonerwal_open *frame, struct doing *doing)
 {
-	struct answer answer = {0};
-	if (brings_frame(event.kind) && !listed(open)) {
-		answer.refusal = 2;
-		return answer;
+	const struct row *row = &table[s->phase][e.kind];
+	if (!row->listed || (row->op == NOTE_CLOSE && s->close)) {
+		s->unexpected += s->unexpected < UINT32_MAX;
+		return;
 	}
-	if (!keeps_rules(link)) {
-		answer.refusal = 3;
-		return answer;
-	}
-	if (event.kind == DISABLE) {
-		enter(link, 0, &answer);
-		return answer;
-	}
-	const struct row *row = &table[link->state][event.kind];
-	if (!row->listed || (row->op == NOTE_CLOSE && link->closed)) {
-		link->count += link->count < UINT32_MAX;
-		return answer;
-	}
-	uint8_t to = row->to;
-	struct action action = row->action;
+	uint8_t to = row->to, action = row->action, detail = e.detail;
 	switch (row->op) {
 	case HOLD:
-		link->held = *open;
-		link->holds = true;
+		s->held = *frame;
+		s->has_held = 1;
 		break;
 	case HEAR:
-		link->heard = *open;
-		link->hears = true;
+		s->heard = *frame;
+		s->has_heard = 1;
 		break;
 	case SEE:
-		link->aip = event.detail + 1;
-		action.detail = event.detail;
+		s->aip = (uint8_t)(e.detail + 1);
 		break;
 	case NOTE_BREAK:
-		link->broke = true;
+		s->broke = 1;
 		break;
 	case NOTE_CLOSE:
-		link->closed = true;
+		s->close = 1;
 		break;
 	case NOTE_BLOCKED:
-		link->blocked = event.detail == 1;
-		action.detail = event.detail == 2 ? 2 : 1;
+		s->blocked = e.detail == SONERWAL_ARBITRATING_BLOCKED_ON_PARTIAL;
+		detail = e.detail == SONERWAL_ARBITRATING_WAITING_ON_CONNECTION ? SONERWAL_WAIT_CONNECTION : SONERWAL_WAIT_PARTIAL;
 		break;
 	case TIMER:
-		if (link->blocked) {
-			add(&answer, REQUEST_PATH, 0, 1);
-		}
-		return answer;
+		add(doing, s->blocked ? SONERWAL_KIND_REQUEST_PATH : SONERWAL_KIND_NONE, 1);
+		return;
 	case FORWARD:
-		if (link->broke) {
-			add(&answer, BREAKING, 1, 0);
+		if (s->broke) {
+			action = SONERWAL_KIND_SEND_BREAK;
 			to = 9;
 		}
 		break;
 	case CROSS:
-		cross(link, open, &answer);
-		return answer;
-	case SENT5:
-		add(&answer, SEND, W_STATUS, 3);
-		sent_in_5(link, &answer);
-		return answer;
-	case CLOSE7:
-		to = link->closed ? 0 : 8;
+		cross(s, frame, doing);
+		return;
+	case SENT_IN_5:
+		sent_in_5(s, doing);
+		return;
+	case CLOSE_IN_7:
+		to = s->close ? 0 : 8;
 		break;
 	default:
-		action.detail = event.kind == ARB_REJECT && event.detail == 2 ? 3 : event.detail;
+		detail = e.kind == SONERWAL_KIND_ARB_REJECT ? reject_for[e.detail] : e.detail;
 		break;
 	}
-	add(&answer, action.act, action.what, action.detail);
+	add(doing, action, detail);
 	if (to != STAY) {
-		enter(link, to, &answer);
+		enter(s, to, doing);
 	}
-	return answer;
 }
 
-/* The detail that our side gives each kind. */
-static const uint8_t details[KINDS] = {
-	[OPEN_REJECT] = 7, [AIP] = 1, [ARB_STATUS] = 1, [ROUTED_REJECT] = 7, [ARB_REJECT] = 2, [ARBITRATING] = 1};
+/* ---- What the bench calls */
 
-static uint32_t mix(uint32_t sum, const struct link *link, const struct answer *answer)
+struct sonerwal_link_step plain_link_event(struct sonerwal_link s, struct sonerwal_event e, struct sonerwal_open frame)
 {
-	uint32_t weight = link->state;
-	for (int i = 0; i < 4; i++) {
-		weight = weight * 8 + answer->actions[i].act;
+	struct sonerwal_link_step step = {.state = s};
+	struct doing doing = {&step, 0};
+	if (!named(e, &frame)) {
+		step.answer = SONERWAL_REFUSED_UNLISTED;
+	} else if (!keeps_rules(&s)) {
+		step.answer = SONERWAL_REFUSED_RULES;
+	} else if (e.kind == SONERWAL_KIND_DISABLE) {
+		enter(&step.state, 0, &doing);
+	} else {
+		frame.zero4 = frame.zero2 = frame.zero1 = 0;
+		take(&step.state, e, &frame, &doing);
 	}
-	return sum % 65536 * 31 + weight;
+	return step;
 }
 
-uint32_t plain_links(const uint8_t *events, size_t count, uint64_t destination, uint64_t source)
+uint8_t plain_link_status(struct sonerwal_link s)
 {
-	struct link link = {0};
-	uint32_t sum = 0;
-	for (size_t i = 0; i < count; i++) {
-		uint8_t kind = events[i] % KINDS;
-		struct open open = {
-			.initiator = 1, .protocol = 1, .rate = (uint8_t)source, .destination = destination, .source = source, .awt = events[i] / KINDS};
-		struct answer answer = step(&link, (struct event){kind, details[kind]}, &open);
-		sum = mix(sum, &link, &answer);
+	if (!keeps_rules(&s)) {
+		return SONERWAL_REFUSED_RULES;
 	}
-	return sum;
+	switch (s.phase) {
+	case 0: return SONERWAL_READY;
+	case 7:
+	case 8: return SONERWAL_CONNECTED;
+	case 3:
+	case 6: return s.aip == 1 + SONERWAL_WAIT_PARTIAL ? SONERWAL_BLOCKED_PARTIAL : SONERWAL_PARTIAL;
+	default: return SONERWAL_PARTIAL;
+	}
+}
+
+struct sonerwal_link_step plain_link_crossing(struct sonerwal_link s, struct sonerwal_event e, struct sonerwal_open frame)
+{
+	(void)e;
+	(void)frame;
+	return (struct sonerwal_link_step){.state = s};
 }

@@ -8,29 +8,28 @@
 enum { LENGTH = 32, SSP = 1 };
 enum { FREE, WAITS, IN_PROGRESS };
 enum { DISABLED, UNCONNECTED, OPENING, IDLE, FRAME_OUT, CLOSING, CLOSING_FRAME_OUT };
-enum { WRONG_LENGTH = 1, UNLISTED, RULES, PAST = 5, PRESENT = 9, FULL };
 
-static bool listed(const struct head *h)
+static bool listed(const struct sonerwal_head *h)
 {
 	return h->initiator <= 1 && h->protocol < 3 && h->features < 16 && h->rate >= 8 && h->rate < 11;
 }
 
-static bool same_key(const struct head *a, const struct head *b)
+static bool same_key(const struct sonerwal_head *a, const struct sonerwal_head *b)
 {
 	return a->destination == b->destination && a->protocol == b->protocol && a->tag == b->tag;
 }
 
-static bool same_nexus(const struct head *a, const struct head *b)
+static bool same_nexus(const struct sonerwal_head *a, const struct sonerwal_head *b)
 {
 	return a->destination == b->destination && a->protocol == SSP && b->protocol == SSP;
 }
 
-static bool phy_kept(const struct port *port, int k)
+static bool phy_kept(const struct sonerwal_port *port, int k)
 {
-	const struct phy *p = &port->phys[k];
+	const struct sonerwal_phy *p = &port->phys[k];
 	bool names = p->slot < LENGTH;
 	bool must = p->stage == OPENING || p->stage == FRAME_OUT || p->stage == CLOSING_FRAME_OUT;
-	if (p->stage > CLOSING_FRAME_OUT || p->protocol > 2 || p->slot > LENGTH) {
+	if (p->zero4 || p->zero1 || p->stage > CLOSING_FRAME_OUT || p->protocol > 2 || p->slot > LENGTH) {
 		return false;
 	}
 	if ((must && !names) || (names && !must && p->stage != CLOSING)) {
@@ -39,9 +38,9 @@ static bool phy_kept(const struct port *port, int k)
 	return k < port->count || p->stage == DISABLED;
 }
 
-static bool port_invariant(const struct port *port)
+static bool port_invariant(const struct sonerwal_port *port)
 {
-	if (port->count < 1 || port->count > PHYS || port->loss < 1) {
+	if (port->zero4 || port->zero1 || port->count < 1 || port->count > PHYS || port->loss < 1) {
 		return false;
 	}
 	for (int k = 0; k < PHYS; k++) {
@@ -53,7 +52,7 @@ static bool port_invariant(const struct port *port)
 }
 
 /* Each phy that names a request is the one that it is in progress on, and no other is. */
-static bool paired(const struct request *list, const struct port *port)
+static bool paired(const struct sonerwal_request *list, const struct sonerwal_port *port)
 {
 	for (int k = 0; k < PHYS; k++) {
 		size_t slot = port->phys[k].slot;
@@ -64,7 +63,7 @@ static bool paired(const struct request *list, const struct port *port)
 	return true;
 }
 
-static bool present_kept(const struct request *r, const struct port *port, size_t i)
+static bool present_kept(const struct sonerwal_request *r, const struct sonerwal_port *port, size_t i)
 {
 	if (r->stage > IN_PROGRESS || r->cancelled > 1 || r->closed > 1 || r->retry.set > 1 || r->first.set > 1 || r->loss.set > 1) {
 		return false;
@@ -78,17 +77,17 @@ static bool present_kept(const struct request *r, const struct port *port, size_
 	return r->stage != IN_PROGRESS || (r->phy < PHYS && port->phys[r->phy].slot == i);
 }
 
-static bool same_timer(const struct stamp *a, const struct stamp *b)
+static bool same_timer(const struct sonerwal_stamp *a, const struct sonerwal_stamp *b)
 {
 	return a->set == b->set && (!a->set || a->at == b->at);
 }
 
 /* Whether the request has another key than each behind it, and the timer of those of its destination. */
-static bool apart(const struct request *list, size_t i)
+static bool apart(const struct sonerwal_request *list, size_t i)
 {
-	const struct request *r = &list[i];
+	const struct sonerwal_request *r = &list[i];
 	for (size_t j = i + 1; j < LENGTH; j++) {
-		const struct request *o = &list[j];
+		const struct sonerwal_request *o = &list[j];
 		if (o->head.destination != r->head.destination || o->stage == FREE) {
 			continue;
 		}
@@ -99,109 +98,121 @@ static bool apart(const struct request *list, size_t i)
 	return true;
 }
 
-int plain_rules(const struct request *list, size_t length, const struct port *port)
+static bool rules(const struct sonerwal_request *list, const struct sonerwal_port *port)
 {
-	if (length != LENGTH || !port_invariant(port) || !paired(list, port)) {
-		return 0;
+	if (!port_invariant(port) || !paired(list, port)) {
+		return false;
 	}
 	for (size_t i = 0; i < LENGTH; i++) {
 		if (list[i].stage != FREE && (!present_kept(&list[i], port, i) || !apart(list, i))) {
-			return 0;
+			return false;
 		}
 	}
-	return 1;
+	return true;
 }
 
-static void name(struct answer *answer, int word, size_t slot, uint8_t phy, const struct head *head)
+static void name(struct sonerwal_port_step *step, int answer, size_t slot, uint8_t phy, const struct sonerwal_head *head)
 {
-	answer->word = (uint8_t)word;
-	answer->slot = (uint8_t)slot;
-	answer->phy = phy;
-	answer->frame.head = *head;
+	step->answer = (uint8_t)answer;
+	step->slot = (uint8_t)slot;
+	step->phy = phy;
+	step->frame = frame_of(*head);
 }
 
-static void nameless(struct answer *answer, int word, int detail)
+/* A call that names no request and no phy. */
+static void begin(struct sonerwal_port_step *step, const struct sonerwal_port *port)
 {
-	answer->word = (uint8_t)word;
-	answer->detail = (uint8_t)detail;
-	answer->slot = LENGTH;
-	answer->phy = PHYS;
+	memset(&step->frame, 0, sizeof step->frame);
+	step->port = *port;
+	step->answer = SONERWAL_OK;
+	step->detail = 0;
+	step->slot = LENGTH;
+	step->phy = PHYS;
 }
 
-void plain_submit(struct request *list, size_t length, struct port *port, const struct wish *wish, struct answer *answer)
+static struct sonerwal_head head_of(const struct sonerwal_open *o)
 {
-	memset(answer, 0, sizeof *answer);
+	return (struct sonerwal_head){o->initiator, o->protocol, o->features, o->rate, o->tag, o->destination, o->source};
+}
+
+struct sonerwal_port_step plain_port_submit(struct sonerwal_request *list, size_t length, struct sonerwal_port port, struct sonerwal_open frame,
+                                            uint64_t now)
+{
+	struct sonerwal_port_step step;
+	struct sonerwal_head head = head_of(&frame);
+	begin(&step, &port);
 	if (length != LENGTH) {
-		nameless(answer, REFUSED, WRONG_LENGTH);
-		return;
+		step.answer = SONERWAL_REFUSED_LENGTH;
+		return step;
 	}
-	if (!listed(&wish->head)) {
-		nameless(answer, REFUSED, UNLISTED);
-		return;
+	if (!listed(&head)) {
+		step.answer = SONERWAL_REFUSED_UNLISTED;
+		return step;
 	}
-	if (!plain_rules(list, length, port)) {
-		nameless(answer, REFUSED, RULES);
-		return;
+	if (!rules(list, &port)) {
+		step.answer = SONERWAL_REFUSED_RULES;
+		return step;
 	}
-	if (wish->now < port->last) {
-		nameless(answer, REFUSED, PAST);
-		return;
+	if (now < port.last) {
+		step.answer = SONERWAL_REFUSED_PAST;
+		return step;
 	}
 	size_t slot = LENGTH;
-	const struct stamp *loss = NULL;
+	const struct sonerwal_stamp *loss = NULL;
 	for (size_t i = 0; i < LENGTH; i++) {
-		const struct request *r = &list[i];
+		const struct sonerwal_request *r = &list[i];
 		if (r->stage == FREE) {
 			slot = slot < LENGTH ? slot : i;
-		} else if (same_key(&r->head, &wish->head)) {
-			nameless(answer, REFUSED, PRESENT);
-			return;
-		} else if (same_nexus(&r->head, &wish->head)) {
+		} else if (same_key(&r->head, &head)) {
+			step.answer = SONERWAL_REFUSED_PRESENT;
+			return step;
+		} else if (same_nexus(&r->head, &head)) {
 			loss = &r->loss;
 		}
 	}
 	if (slot == LENGTH) {
-		nameless(answer, REFUSED, FULL);
-		return;
+		step.answer = SONERWAL_REFUSED_FULL;
+		return step;
 	}
-	struct request *r = &list[slot];
-	struct stamp timer = loss ? *loss : (struct stamp){0, 0};
+	struct sonerwal_request *r = &list[slot];
+	struct sonerwal_stamp timer = loss ? *loss : (struct sonerwal_stamp){0, 0};
 	memset(r, 0, sizeof *r);
 	r->stage = WAITS;
-	r->head = wish->head;
-	r->submitted = wish->now;
+	r->head = head;
+	r->submitted = now;
 	r->loss = timer;
-	port->last = wish->now;
-	name(answer, SUBMITTED, slot, PHYS, &wish->head);
+	step.port.last = now;
+	name(&step, SONERWAL_SUBMITTED, slot, PHYS, &head);
+	return step;
 }
 
-static bool ready(const struct request *r, uint64_t now)
+static bool ready(const struct sonerwal_request *r, uint64_t now)
 {
 	return r->stage == WAITS && (!r->retry.set || (now >= r->retry.at && now - r->retry.at >= 15));
 }
 
 /* What can be done for a request, by the phy of the lowest number: 0 nothing. */
-static int way(const struct port *port, const struct request *r, uint8_t *phy)
+static int way(const struct sonerwal_port *port, const struct sonerwal_request *r, uint8_t *phy)
 {
 	int opens = PHYS, closes = PHYS;
 	for (int k = 0; k < PHYS; k++) {
-		const struct phy *p = &port->phys[k];
+		const struct sonerwal_phy *p = &port->phys[k];
 		if (p->stage == UNCONNECTED) {
 			opens = opens < PHYS ? opens : k;
 		} else if (p->stage == IDLE && p->destination == r->head.destination && p->protocol == r->head.protocol) {
 			*phy = (uint8_t)k;
-			return SEND;
+			return SONERWAL_SEND;
 		} else if (p->stage == IDLE) {
 			closes = closes < PHYS ? closes : k;
 		}
 	}
 	if (opens < PHYS) {
 		*phy = (uint8_t)opens;
-		return OPEN;
+		return SONERWAL_OPEN;
 	}
 	if (!r->closed && closes < PHYS) {
 		*phy = (uint8_t)closes;
-		return CLOSE;
+		return SONERWAL_CLOSE;
 	}
 	return 0;
 }
@@ -215,60 +226,61 @@ static uint16_t wait_value(uint64_t elapsed)
 	return milliseconds > 32767 ? 65535 : (uint16_t)(32768 + milliseconds);
 }
 
-static void do_open(struct request *r, size_t slot, struct phy *p, uint8_t phy, uint64_t now, struct answer *answer)
+static void do_open(struct sonerwal_request *r, size_t slot, struct sonerwal_phy *p, uint8_t phy, uint64_t now, struct sonerwal_port_step *step)
 {
-	*p = (struct phy){OPENING, (uint8_t)slot, 0, 0};
+	*p = (struct sonerwal_phy){.stage = OPENING, .slot = (uint8_t)slot};
 	r->stage = IN_PROGRESS;
 	r->phy = phy;
 	if (!r->first.set) {
-		r->first = (struct stamp){1, now};
+		r->first = (struct sonerwal_stamp){1, now};
 	}
 	r->awt = wait_value(now - r->first.at);
-	name(answer, OPEN, slot, phy, &r->head);
-	answer->frame.pbc = r->pbc;
-	answer->frame.awt = r->awt;
+	name(step, SONERWAL_OPEN, slot, phy, &r->head);
+	step->frame.pbc = r->pbc;
+	step->frame.awt = r->awt;
 }
 
-void plain_choose(struct request *list, size_t length, struct port *port, uint64_t now, struct answer *answer)
+struct sonerwal_port_step plain_port_choose(struct sonerwal_request *list, size_t length, struct sonerwal_port port, uint64_t now)
 {
-	memset(answer, 0, sizeof *answer);
+	struct sonerwal_port_step step;
+	begin(&step, &port);
 	if (length != LENGTH) {
-		nameless(answer, REFUSED, WRONG_LENGTH);
-		return;
+		step.answer = SONERWAL_REFUSED_LENGTH;
+		return step;
 	}
-	if (!plain_rules(list, length, port)) {
-		nameless(answer, REFUSED, RULES);
-		return;
+	if (!rules(list, &port)) {
+		step.answer = SONERWAL_REFUSED_RULES;
+		return step;
 	}
-	if (now < port->last) {
-		nameless(answer, REFUSED, PAST);
-		return;
+	if (now < port.last) {
+		step.answer = SONERWAL_REFUSED_PAST;
+		return step;
 	}
-	int step = 0;
+	int found = 0;
 	size_t slot = 0;
 	uint8_t phy = 0;
 	for (size_t i = 0; i < LENGTH; i++) {
 		uint8_t by;
-		int found;
-		if (ready(&list[i], now) && (!step || list[i].submitted < list[slot].submitted) && (found = way(port, &list[i], &by))) {
-			step = found;
+		int can;
+		if (ready(&list[i], now) && (!found || list[i].submitted < list[slot].submitted) && (can = way(&port, &list[i], &by))) {
+			found = can;
 			slot = i;
 			phy = by;
 		}
 	}
-	port->last = now;
-	if (!step) {
-		nameless(answer, NOTHING, 0);
-		return;
+	step.port.last = now;
+	if (!found) {
+		step.answer = SONERWAL_NOTHING;
+		return step;
 	}
-	struct request *r = &list[slot];
-	struct phy *p = &port->phys[phy];
-	if (step == OPEN) {
-		do_open(r, slot, p, phy, now, answer);
-		return;
+	struct sonerwal_request *r = &list[slot];
+	struct sonerwal_phy *p = &step.port.phys[phy];
+	if (found == SONERWAL_OPEN) {
+		do_open(r, slot, p, phy, now, &step);
+		return step;
 	}
-	name(answer, step, slot, phy, &r->head);
-	if (step == SEND) {
+	name(&step, found, slot, phy, &r->head);
+	if (found == SONERWAL_SEND) {
 		p->stage = FRAME_OUT;
 		p->slot = (uint8_t)slot;
 		r->stage = IN_PROGRESS;
@@ -278,4 +290,36 @@ void plain_choose(struct request *list, size_t length, struct port *port, uint64
 		p->slot = LENGTH;
 		r->closed = 1;
 	}
+	return step;
+}
+
+struct sonerwal_port_step plain_port_enable(struct sonerwal_request *list, size_t length, struct sonerwal_port port, uint8_t phy, uint64_t now)
+{
+	struct sonerwal_port_step step;
+	begin(&step, &port);
+	if (length != LENGTH) {
+		step.answer = SONERWAL_REFUSED_LENGTH;
+	} else if (!rules(list, &port)) {
+		step.answer = SONERWAL_REFUSED_RULES;
+	} else if (phy >= port.count) {
+		step.answer = SONERWAL_REFUSED_PHY;
+	} else if (now < port.last) {
+		step.answer = SONERWAL_REFUSED_PAST;
+	} else if (port.phys[phy].stage != DISABLED) {
+		step.answer = SONERWAL_REFUSED_UNFIT;
+	} else {
+		step.port.last = now;
+		step.port.phys[phy] = (struct sonerwal_phy){.stage = UNCONNECTED, .slot = LENGTH};
+	}
+	return step;
+}
+
+struct sonerwal_port_step plain_port_crossing(struct sonerwal_request *list, size_t length, struct sonerwal_port port, uint64_t now)
+{
+	struct sonerwal_port_step step;
+	(void)list;
+	(void)length;
+	begin(&step, &port);
+	step.port.last = now;
+	return step;
 }

@@ -1,18 +1,15 @@
-/* Two calls of the port and the test of its rules in plain C: the port and the list are changed in place. */
+/* Three of the port's calls in plain C of the same signatures. */
 #ifndef SONERWAL_BENCH_PLAIN_PORTS_H
 #define SONERWAL_BENCH_PLAIN_PORTS_H
 
 #include "../tests/ports.h"
 
-struct answer {
-	uint8_t word, detail, slot, phy;
-	struct open_frame frame;
-};
+struct sonerwal_port_step plain_port_submit(struct sonerwal_request *list, size_t length, struct sonerwal_port port, struct sonerwal_open head,
+                                            uint64_t now);
+struct sonerwal_port_step plain_port_choose(struct sonerwal_request *list, size_t length, struct sonerwal_port port, uint64_t now);
+struct sonerwal_port_step plain_port_enable(struct sonerwal_request *list, size_t length, struct sonerwal_port port, uint8_t phy, uint64_t now);
 
-/* 1 if the port and the list keep the rules of a lent state, else 0. */
-int plain_rules(const struct request *list, size_t length, const struct port *port);
-
-void plain_submit(struct request *list, size_t length, struct port *port, const struct wish *wish, struct answer *answer);
-void plain_choose(struct request *list, size_t length, struct port *port, uint64_t now, struct answer *answer);
+/* The port goes in and comes back, and nothing else is done. */
+struct sonerwal_port_step plain_port_crossing(struct sonerwal_request *list, size_t length, struct sonerwal_port port, uint64_t now);
 
 #endif

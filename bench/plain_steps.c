@@ -1,40 +1,10 @@
+#include "plain_steps.h"
+
 #include "plain_data.h"
-#include "steps.h"
 
 #include <stdbool.h>
 
 /* Document 01, 'Read transfer'. */
-
-enum { BOUND = 64 };
-
-enum phase { NEW, RUN, DRAIN, DONE, FAIL, END };
-
-enum answer { OK, SENT, DRAINING, RETRY, DELIVERED, REFUSED };
-
-/* The refusals' numbers in document 01. */
-enum refusal { NONE = 0, LENGTH = 1, UNLISTED = 2, RULES = 3, UNFIT = 6, DUE = 7, ALL_SENT = 8, FULL = 10 };
-
-struct transfer {
-	uint32_t offset, count, size, resends;
-	uint32_t read, balance, unanswered, used;
-	bool sent;
-	enum phase phase;
-};
-
-struct answered {
-	enum answer answer;
-	enum refusal refusal;
-};
-
-static struct answered say(enum answer answer)
-{
-	return (struct answered){answer, NONE};
-}
-
-static struct answered refuse(enum refusal refusal)
-{
-	return (struct answered){REFUSED, refusal};
-}
 
 /* ---- The test of a lent state */
 
@@ -43,25 +13,25 @@ static bool in_range(uint32_t b, uint32_t n, uint32_t m, uint32_t r)
 	return n >= 1 && (uint64_t)b + n <= UINT32_MAX && m % 4 == 0 && m >= 4 && m <= 1024 && r <= 255;
 }
 
-static bool zeros(const struct transfer *s)
+static bool zeros(const struct sonerwal_transfer *s)
 {
-	return s->phase == NEW && s->offset == 0 && s->count == 0 && s->size == 0 && s->resends == 0 && s->read == 0 &&
-	       s->balance == 0 && s->unanswered == 0 && s->used == 0 && !s->sent;
+	return s->phase == SONERWAL_PHASE_NEW && s->offset == 0 && s->count == 0 && s->size == 0 && s->resends == 0 &&
+	       s->read == 0 && s->balance == 0 && s->unanswered == 0 && s->used == 0 && s->sent == 0;
 }
 
 /* Whether x is where a frame begins, or the end. */
-static bool on_grid(const struct transfer *s, uint64_t end, uint32_t x)
+static bool on_grid(const struct sonerwal_transfer *s, uint64_t end, uint32_t x)
 {
 	return x == end || (x - s->offset) % s->size == 0;
 }
 
-static bool placed(const struct transfer *s, uint64_t end)
+static bool placed(const struct sonerwal_transfer *s, uint64_t end)
 {
 	return in_range(s->offset, s->count, s->size, s->resends) && s->offset <= s->balance && s->balance <= s->read &&
 	       s->read <= end && s->used <= s->resends && on_grid(s, end, s->balance) && on_grid(s, end, s->read);
 }
 
-static bool attempted(const struct transfer *s, uint64_t out)
+static bool attempted(const struct sonerwal_transfer *s, uint64_t out)
 {
 	if (out > 0) {
 		return s->sent;
@@ -69,20 +39,20 @@ static bool attempted(const struct transfer *s, uint64_t out)
 	return s->sent ? s->offset < s->balance : s->balance == s->offset || s->used > 0;
 }
 
-static bool phase_rule(const struct transfer *s, uint64_t end, uint64_t out)
+static bool phase_rule(const struct sonerwal_transfer *s, uint64_t end, uint64_t out)
 {
 	switch (s->phase) {
-	case RUN:
+	case SONERWAL_PHASE_RUN:
 		return s->balance < end && attempted(s, out) &&
-		       (s->unanswered == 0 ? out == 0 : s->unanswered <= BOUND && s->unanswered <= out);
-	case DRAIN:
+		       (s->unanswered == 0 ? out == 0 : s->unanswered <= SONERWAL_UNANSWERED_MAX && s->unanswered <= out);
+	case SONERWAL_PHASE_DRAIN:
 		return s->balance < end && s->sent && s->used < s->resends && s->unanswered > 0 &&
-		       s->unanswered < BOUND && s->unanswered < out;
-	case DONE:
+		       s->unanswered < SONERWAL_UNANSWERED_MAX && s->unanswered < out;
+	case SONERWAL_PHASE_DONE:
 		return s->balance == end && s->read == end && s->unanswered == 0 && s->sent;
-	case FAIL:
+	case SONERWAL_PHASE_FAILED:
 		return s->balance < end && s->sent && s->used == s->resends && s->unanswered == 0 && out > 0;
-	case END:
+	case SONERWAL_PHASE_ENDED:
 		return s->balance < end && attempted(s, out) && s->unanswered == 0;
 	default:
 		return false;
@@ -90,9 +60,12 @@ static bool phase_rule(const struct transfer *s, uint64_t end, uint64_t out)
 }
 
 /* Whether the state is that before START, or some START and calls after it leave it. */
-static bool taken(const struct transfer *s)
+static bool taken(const struct sonerwal_transfer *s)
 {
 	uint64_t end = (uint64_t)s->offset + s->count;
+	if (s->zero2 != 0 || s->sent > 1) {
+		return false;
+	}
 	if (!placed(s, end)) {
 		return zeros(s);
 	}
@@ -101,179 +74,191 @@ static bool taken(const struct transfer *s)
 	return phase_rule(s, end, out);
 }
 
-/* ---- Steps */
+/* ---- Steps in place, each with its answer */
 
-static bool unfinished(const struct transfer *s)
+static bool unfinished(const struct sonerwal_transfer *s)
 {
-	return s->phase == RUN || s->phase == DRAIN;
+	return s->phase == SONERWAL_PHASE_RUN || s->phase == SONERWAL_PHASE_DRAIN;
 }
 
-static bool all_sent(const struct transfer *s)
+static bool all_sent(const struct sonerwal_transfer *s)
 {
 	return s->read == (uint64_t)s->offset + s->count;
 }
 
-static uint32_t frame_length(const struct transfer *s)
+static uint32_t frame_length(const struct sonerwal_transfer *s)
 {
 	uint64_t left = (uint64_t)s->offset + s->count - s->read;
 	return left < s->size ? (uint32_t)left : s->size;
 }
 
-static struct answered start(struct transfer *s, uint32_t b, uint32_t n, uint32_t m, uint32_t r)
-{
-	if (!in_range(b, n, m, r) || !taken(s)) {
-		return refuse(RULES);
-	}
-	if (unfinished(s)) {
-		return refuse(UNFIT);
-	}
-	*s = (struct transfer){
-		.offset = b, .count = n, .size = m, .resends = r, .read = b, .balance = b, .phase = RUN};
-	return say(OK);
-}
-
-static enum refusal frame_refusal(const struct transfer *s)
+static uint8_t frame_refusal(const struct sonerwal_transfer *s)
 {
 	if (!taken(s)) {
-		return RULES;
+		return SONERWAL_REFUSED_RULES;
 	}
 	if (!unfinished(s)) {
-		return UNFIT;
+		return SONERWAL_REFUSED_UNFIT;
 	}
-	if (s->phase == DRAIN) {
-		return DUE;
+	if (s->phase == SONERWAL_PHASE_DRAIN) {
+		return SONERWAL_REFUSED_DUE;
 	}
 	if (all_sent(s)) {
-		return ALL_SENT;
+		return SONERWAL_REFUSED_SENT;
 	}
-	return s->unanswered >= BOUND ? FULL : NONE;
+	return s->unanswered >= SONERWAL_UNANSWERED_MAX ? SONERWAL_REFUSED_FULL : SONERWAL_OK;
 }
 
-static void send_frame(struct transfer *s)
+static uint8_t answer_refusal(const struct sonerwal_transfer *s)
+{
+	if (!taken(s)) {
+		return SONERWAL_REFUSED_RULES;
+	}
+	return unfinished(s) && s->unanswered > 0 ? SONERWAL_OK : SONERWAL_REFUSED_UNFIT;
+}
+
+static void send_frame(struct sonerwal_transfer *s)
 {
 	s->read += frame_length(s);
 	s->unanswered++;
-	s->sent = true;
+	s->sent = 1;
 }
 
-static struct answered frame(struct transfer *s)
+static uint8_t resend(struct sonerwal_transfer *s)
 {
-	enum refusal refusal = frame_refusal(s);
-	if (refusal != NONE) {
-		return refuse(refusal);
-	}
-	send_frame(s);
-	return say(SENT);
-}
-
-static struct answered drained(struct transfer *s)
-{
-	if (s->unanswered > 0) {
-		return say(DRAINING);
-	}
 	s->read = s->balance;
-	s->sent = false;
+	s->sent = 0;
 	s->used++;
-	s->phase = RUN;
-	return say(RETRY);
+	s->phase = SONERWAL_PHASE_RUN;
+	return SONERWAL_RETRY;
 }
 
-static struct answered ack(struct transfer *s)
+static uint8_t finish(struct sonerwal_transfer *s, uint8_t phase, uint8_t answer)
 {
-	if (!taken(s)) {
-		return refuse(RULES);
-	}
-	if (!unfinished(s) || s->unanswered == 0) {
-		return refuse(UNFIT);
+	s->unanswered = 0;
+	s->phase = phase;
+	return answer;
+}
+
+static uint8_t drained(struct sonerwal_transfer *s)
+{
+	return s->unanswered > 0 ? SONERWAL_DRAIN : resend(s);
+}
+
+static uint8_t ack(struct sonerwal_transfer *s)
+{
+	uint8_t refusal = answer_refusal(s);
+	if (refusal != SONERWAL_OK) {
+		return refusal;
 	}
 	s->unanswered--;
-	if (s->phase == DRAIN) {
+	if (s->phase == SONERWAL_PHASE_DRAIN) {
 		return drained(s);
 	}
 	if (s->unanswered > 0) {
-		return say(OK);
+		return SONERWAL_OK;
 	}
 	s->balance = s->read;
-	if (!all_sent(s)) {
-		return say(OK);
-	}
-	s->phase = DONE;
-	return say(DELIVERED);
+	return all_sent(s) ? finish(s, SONERWAL_PHASE_DONE, SONERWAL_DONE) : SONERWAL_OK;
 }
 
-/* What the frame of a next-frame call goes out with. */
-struct sender {
-	uint32_t hashed_destination, hashed_source;
-	uint16_t tag;
-	const uint8_t *body;
-	size_t body_len;
-	uint8_t *out;
-	size_t out_len;
-};
-
-static struct answered next_frame(struct transfer *s, const struct sender *to)
+static uint8_t nak(struct sonerwal_transfer *s)
 {
-	enum refusal refusal = frame_refusal(s);
-	if (refusal != NONE) {
-		return refuse(refusal);
+	uint8_t refusal = answer_refusal(s);
+	if (refusal != SONERWAL_OK) {
+		return refusal;
 	}
-	if (to->hashed_destination > 0xFFFFFF || to->hashed_source > 0xFFFFFF) {
-		return refuse(UNLISTED);
+	if (s->used == s->resends) {
+		return finish(s, SONERWAL_PHASE_FAILED, SONERWAL_FAIL);
 	}
-	if (to->body_len != frame_length(s) || to->out_len < data_frame_size(to->body_len)) {
-		return refuse(LENGTH);
+	s->unanswered--;
+	s->phase = SONERWAL_PHASE_DRAIN;
+	return drained(s);
+}
+
+static uint8_t drop(struct sonerwal_transfer *s)
+{
+	uint8_t refusal = answer_refusal(s);
+	if (refusal != SONERWAL_OK) {
+		return refusal;
 	}
-	store_data(to->hashed_destination, to->hashed_source, s->used > 0 && !s->sent, to->tag, s->read, to->body,
-	           to->body_len, to->out);
-	send_frame(s);
-	return say(SENT);
+	s->unanswered = 0;
+	return s->used == s->resends ? finish(s, SONERWAL_PHASE_FAILED, SONERWAL_FAIL) : resend(s);
+}
+
+static uint8_t end(struct sonerwal_transfer *s)
+{
+	if (!taken(s)) {
+		return SONERWAL_REFUSED_RULES;
+	}
+	return unfinished(s) ? finish(s, SONERWAL_PHASE_ENDED, SONERWAL_END) : SONERWAL_REFUSED_UNFIT;
 }
 
 /* ---- What the bench calls */
 
-uint32_t plain_frames(uint32_t b, uint32_t n, uint32_t m, uint32_t r, uint32_t frames)
-{
-	struct transfer s = {.phase = NEW};
-	start(&s, b, n, m, r);
-	for (uint32_t i = 0; i < frames; i++) {
-		frame(&s);
+#define BY_VALUE(call, step)                                                         \
+	struct sonerwal_transfer_step plain_transfer_##call(struct sonerwal_transfer s) \
+	{                                                                            \
+		uint8_t answer = step(&s);                                           \
+		return (struct sonerwal_transfer_step){s, answer};                   \
 	}
-	return s.read;
+
+BY_VALUE(ack, ack)
+BY_VALUE(nak, nak)
+BY_VALUE(timeout, drop)
+BY_VALUE(lost, drop)
+BY_VALUE(nexus, end)
+BY_VALUE(cancel, end)
+
+struct sonerwal_transfer_step plain_transfer_start(struct sonerwal_transfer s, uint32_t offset, uint32_t count,
+                                                   uint32_t size, uint32_t resends)
+{
+	if (!in_range(offset, count, size, resends) || !taken(&s)) {
+		return (struct sonerwal_transfer_step){s, SONERWAL_REFUSED_RULES};
+	}
+	if (unfinished(&s)) {
+		return (struct sonerwal_transfer_step){s, SONERWAL_REFUSED_UNFIT};
+	}
+	s = (struct sonerwal_transfer){.offset = offset, .count = count, .size = size, .resends = resends,
+	                               .read = offset, .balance = offset, .phase = SONERWAL_PHASE_RUN};
+	return (struct sonerwal_transfer_step){s, SONERWAL_OK};
 }
 
-uint32_t plain_acks(uint32_t b, uint32_t n, uint32_t m, uint32_t r, uint32_t frames, uint32_t acks)
+struct sonerwal_transfer_step plain_transfer_frame(struct sonerwal_transfer s)
 {
-	struct transfer s = {.phase = NEW};
-	start(&s, b, n, m, r);
-	for (uint32_t i = 0; i < frames; i++) {
-		frame(&s);
+	uint8_t refusal = frame_refusal(&s);
+	if (refusal != SONERWAL_OK) {
+		return (struct sonerwal_transfer_step){s, refusal};
 	}
-	for (uint32_t i = 0; i < acks; i++) {
-		ack(&s);
-	}
-	return s.balance;
+	send_frame(&s);
+	return (struct sonerwal_transfer_step){s, SONERWAL_SENT};
 }
 
-uint32_t plain_turns(uint32_t b, uint32_t n, uint32_t m, uint32_t r, uint32_t rounds)
+struct sonerwal_transfer_step plain_transfer_next(struct sonerwal_transfer s, uint32_t hashed_destination,
+                                                  uint32_t hashed_source, uint16_t tag, const uint8_t *body,
+                                                  size_t body_len, uint8_t *frame, size_t frame_len)
 {
-	struct transfer s = {.phase = NEW};
-	start(&s, b, n, m, r);
-	for (uint32_t i = 0; i < rounds; i++) {
-		frame(&s);
-		ack(&s);
+	uint8_t refusal = frame_refusal(&s);
+	if (refusal != SONERWAL_OK) {
+		return (struct sonerwal_transfer_step){s, refusal};
 	}
-	return s.balance;
+	if (hashed_destination > SONERWAL_HASHED_ADDRESS_MAX || hashed_source > SONERWAL_HASHED_ADDRESS_MAX) {
+		return (struct sonerwal_transfer_step){s, SONERWAL_REFUSED_UNLISTED};
+	}
+	if (body_len != frame_length(&s) || frame_len < data_frame_size(body_len)) {
+		return (struct sonerwal_transfer_step){s, SONERWAL_REFUSED_LENGTH};
+	}
+	store_data(hashed_destination, hashed_source, s.used > 0 && !s.sent, tag, s.read, body, body_len, frame);
+	send_frame(&s);
+	return (struct sonerwal_transfer_step){s, SONERWAL_SENT};
 }
 
-uint32_t plain_next(uint32_t b, uint32_t n, uint32_t m, uint32_t r, uint32_t frames, uint32_t hashed_destination,
-                    uint32_t hashed_source, uint16_t tag, const uint8_t *body, size_t body_len, uint8_t *out,
-                    size_t out_len)
+uint32_t plain_transfer_length(struct sonerwal_transfer s)
 {
-	struct transfer s = {.phase = NEW};
-	struct sender to = {hashed_destination, hashed_source, tag, body, body_len, out, out_len};
-	start(&s, b, n, m, r);
-	for (uint32_t i = 0; i < frames; i++) {
-		next_frame(&s, &to);
-	}
-	return s.read;
+	return frame_refusal(&s) == SONERWAL_OK ? frame_length(&s) : 0;
+}
+
+struct sonerwal_transfer_step plain_transfer_crossing(struct sonerwal_transfer s)
+{
+	return (struct sonerwal_transfer_step){s, SONERWAL_OK};
 }

@@ -15,12 +15,12 @@ static uint8_t image[IMAGE];    /* on the board */
 static uint8_t received[IMAGE]; /* at the host */
 
 /* The wire holds one frame at a time. */
-static uint8_t wire[SAS_DATA_SIZE_MAX];
+static uint8_t wire[SONERWAL_DATA_SIZE_MAX];
 static size_t on_wire;
 
 static void must(uint8_t answer, const char *what)
 {
-	if (answer != SAS_OK) {
+	if (answer != SONERWAL_OK) {
 		printf("%s: refusal %d\n", what, answer);
 		exit(EXIT_FAILURE);
 	}
@@ -30,31 +30,31 @@ static void must(uint8_t answer, const char *what)
 
 static void ask(void)
 {
-	struct sas_open request = {
-		.protocol = SAS_PROTOCOL_SSP,
-		.rate = SAS_RATE_6_GBPS,
+	struct sonerwal_open request = {
+		.protocol = SONERWAL_PROTOCOL_SSP,
+		.rate = SONERWAL_RATE_6_GBPS,
 		.tag = 0xFFFF,
 		.destination = UINT64_C(0x5003048087654321),
 		.source = UINT64_C(0x5000C50012345678),
 	};
-	must(sas_open_put(&request, wire, SAS_OPEN_SIZE), "OPEN");
-	on_wire = SAS_OPEN_SIZE;
+	must(sonerwal_open_put(&request, wire, SONERWAL_OPEN_SIZE), "OPEN");
+	on_wire = SONERWAL_OPEN_SIZE;
 }
 
 /* One frame of the image from an offset on; gives how many bytes of the image went. */
 static size_t send(size_t offset)
 {
 	size_t left = IMAGE - offset;
-	size_t length = left < SAS_DATA_BODY_MAX ? left : SAS_DATA_BODY_MAX;
-	struct sas_data data = {
+	size_t length = left < SONERWAL_DATA_BODY_MAX ? left : SONERWAL_DATA_BODY_MAX;
+	struct sonerwal_data data = {
 		.hashed_destination = HOST,
 		.hashed_source = BOARD,
 		.offset = (uint32_t)offset,
 		.tag = TAG,
 		.length = (uint16_t)length,
 	};
-	must(sas_data_put(&data, image + offset, wire, sizeof wire), "DATA");
-	on_wire = sas_data_size(length);
+	must(sonerwal_data_put(&data, image + offset, wire, sizeof wire), "DATA");
+	on_wire = sonerwal_data_size(length);
 	return length;
 }
 
@@ -62,16 +62,16 @@ static size_t send(size_t offset)
 
 static void accept(void)
 {
-	struct sas_open open = {0};
-	must(sas_open_get(&open, wire, on_wire), "OPEN received");
+	struct sonerwal_open open = {0};
+	must(sonerwal_open_get(&open, wire, on_wire), "OPEN received");
 	printf("OPEN  %2zu bytes, %016" PRIX64 " to %016" PRIX64 "\n", on_wire, open.source, open.destination);
 }
 
 static void receive(void)
 {
-	struct sas_data data = {0};
-	must(sas_data_get(&data, wire, on_wire), "DATA received");
-	memcpy(received + data.offset, wire + SAS_DATA_HEADER_SIZE, data.length);
+	struct sonerwal_data data = {0};
+	must(sonerwal_data_get(&data, wire, on_wire), "DATA received");
+	memcpy(received + data.offset, wire + SONERWAL_DATA_HEADER_SIZE, data.length);
 	printf("DATA  %4zu bytes, %4d of the image from %4" PRIu32 " on\n", on_wire, data.length, data.offset);
 }
 
@@ -90,8 +90,8 @@ int main(void)
 
 	/* What the wire does to a frame is noticed, and the host's struct stays as it was. */
 	wire[4] = 1;
-	struct sas_data data = {.tag = TAG};
-	uint8_t answer = sas_data_get(&data, wire, on_wire);
+	struct sonerwal_data data = {.tag = TAG};
+	uint8_t answer = sonerwal_data_get(&data, wire, on_wire);
 	printf("a header byte off: refusal %d, and the tag is still %d\n", answer, data.tag);
-	return answer == SAS_REFUSED_UNLISTED ? EXIT_SUCCESS : EXIT_FAILURE;
+	return answer == SONERWAL_REFUSED_UNLISTED ? EXIT_SUCCESS : EXIT_FAILURE;
 }

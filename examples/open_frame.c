@@ -25,7 +25,7 @@ static void show_bytes(const uint8_t *frame)
 	}
 }
 
-static void show_fields(const struct sas_open *open)
+static void show_fields(const struct sonerwal_open *open)
 {
 	printf("  initiator %d, protocol %d, features %d, rate %d, tag %04X\n", open->initiator, open->protocol,
 	       open->features, open->rate, open->tag);
@@ -35,34 +35,34 @@ static void show_fields(const struct sas_open *open)
 
 int main(void)
 {
-	struct sas_open request = {
+	struct sonerwal_open request = {
 		.initiator = 1,
-		.protocol = SAS_PROTOCOL_SSP,
-		.rate = SAS_RATE_6_GBPS,
+		.protocol = SONERWAL_PROTOCOL_SSP,
+		.rate = SONERWAL_RATE_6_GBPS,
 		.tag = 0x0102,
 		.destination = UINT64_C(0x5000C50012345678),
 		.source = UINT64_C(0x5003048087654321),
 		.pbc = 3,
 		.awt = 1500,
 	};
-	struct sas_open received = {0};
-	uint8_t frame[SAS_OPEN_SIZE];
+	struct sonerwal_open received = {0};
+	uint8_t frame[SONERWAL_OPEN_SIZE];
 
-	if (sas_open_put(&request, frame, sizeof frame) != SAS_OK) {
+	if (sonerwal_open_put(&request, frame, sizeof frame) != SONERWAL_OK) {
 		return EXIT_FAILURE;
 	}
 	printf("written:\n");
 	show_bytes(frame);
 
-	if (sas_open_get(&received, frame, sizeof frame) != SAS_OK) {
+	if (sonerwal_open_get(&received, frame, sizeof frame) != SONERWAL_OK) {
 		return EXIT_FAILURE;
 	}
 	printf("read back:\n");
 	show_fields(&received);
 
 	request.rate = 11;
-	uint8_t answer = sas_open_put(&request, frame, sizeof frame);
+	uint8_t answer = sonerwal_open_put(&request, frame, sizeof frame);
 	printf("rate 11: refusal %d, and the frame is as it was:\n", answer);
 	show_bytes(frame);
-	return answer == SAS_REFUSED_UNLISTED ? EXIT_SUCCESS : EXIT_FAILURE;
+	return answer == SONERWAL_REFUSED_UNLISTED ? EXIT_SUCCESS : EXIT_FAILURE;
 }

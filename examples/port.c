@@ -1,8 +1,6 @@
 /*
  * A target port's day, call by call: what a board asks of the port and reports to it, and what the port answers, in document 01's
  * words. Time is in microseconds.
- *
- * Calls the crate bench_ports.
  */
 #include "../tests/ports.h"
 
@@ -43,8 +41,8 @@ static const char *const protocols[] = {"SMP", "SSP", "STP", "protocol 3"};
 /* Hosts by letter; the port's own address is the source of every request. */
 static const uint64_t hosts = UINT64_C(0x5003048000000000), self = UINT64_C(0x5000C50012345678);
 
-static struct request list[SLOTS];
-static struct port port;
+static struct sonerwal_request list[SLOTS];
+static struct sonerwal_port port;
 static bool quiet; /* while a call is repeated */
 
 /* ---- How it is told */
@@ -62,39 +60,40 @@ static void remark(const char *text)
 	printf("             (%s)\n", text);
 }
 
-static void print_request(struct head head)
+static void print_request(const struct sonerwal_open *frame)
 {
-	printf("%s %c %u", protocols[head.protocol], (char)(head.destination - hosts), head.tag);
+	printf("%s %c %u", protocols[frame->protocol], (char)(frame->destination - hosts), frame->tag);
 }
 
-static void print_answer(const struct reply *reply)
+static void print_answer(const struct sonerwal_port_step *step)
 {
 	const char *between = ": ";
-	printf("%s", words[reply->word]);
-	if (reply->word == REFUSED) {
-		printf(" %u: %s", reply->detail, refusals[reply->detail]);
-	} else if (reply->word == ENDED) {
-		printf(", %s", reasons[reply->detail]);
-	} else if (reply->word == STATUS) {
-		printf(" %02Xh", reply->detail);
+	enum word word = word_of(step->answer);
+	printf("%s", words[word]);
+	if (word == REFUSED) {
+		printf(" %u: %s", step->answer, refusals[step->answer]);
+	} else if (word == ENDED) {
+		printf(", %s", reasons[step->detail]);
+	} else if (word == STATUS) {
+		printf(" %02Xh", step->detail);
 	}
-	if (reply->slot != NO_SLOT) {
+	if (step->slot != NO_SLOT) {
 		printf("%s", between);
-		print_request(reply->frame.head);
-		printf(", slot %u", reply->slot);
+		print_request(&step->frame);
+		printf(", slot %u", step->slot);
 		between = ", ";
 	}
-	if (reply->phy != NO_PHY) {
-		printf("%sphy %u", between, reply->phy);
+	if (step->phy != NO_PHY) {
+		printf("%sphy %u", between, step->phy);
 	}
-	if (reply->word == OPEN) {
-		printf(", AWT %u, PBC %u", reply->frame.awt, reply->frame.pbc);
+	if (word == OPEN) {
+		printf(", AWT %u, PBC %u", step->frame.awt, step->frame.pbc);
 	}
 	printf("\n");
 }
 
 /* Time, call and answer. */
-static void tell(uint64_t now, const struct reply *reply, const char *format, ...)
+static void tell(uint64_t now, const struct sonerwal_port_step *reply, const char *format, ...)
 {
 	char call[80];
 	va_list values;
@@ -111,78 +110,78 @@ static void tell(uint64_t now, const struct reply *reply, const char *format, ..
 
 static void setup(uint8_t count, uint16_t loss)
 {
-	struct reply reply = port_setup(list, SLOTS, count, loss);
-	if (reply.word != REFUSED) {
+	struct sonerwal_port_step reply = sonerwal_port_setup(list, SLOTS, count, loss);
+	if (reply.answer == SONERWAL_OK) {
 		port = reply.port;
 	}
 	tell(0, &reply, "setup: %u phy%s, loss time %u ms", count, count == 1 ? "" : "s", loss);
 }
 
-static struct head head_of(uint8_t protocol, char host, uint16_t tag)
+static struct sonerwal_open head_of(uint8_t protocol, char host, uint16_t tag)
 {
-	return (struct head){.protocol = protocol, .rate = 10, .tag = tag, .destination = hosts + (unsigned char)host, .source = self};
+	return (struct sonerwal_open){.protocol = protocol, .rate = 10, .tag = tag, .destination = hosts + (unsigned char)host, .source = self};
 }
 
 static void submit(uint64_t now, uint8_t protocol, char host, uint16_t tag)
 {
-	struct reply reply = port_submit(list, SLOTS, port, (struct wish){head_of(protocol, host, tag), now});
+	struct sonerwal_port_step reply = sonerwal_port_submit(list, SLOTS, port, head_of(protocol, host, tag), now);
 	port = reply.port;
 	tell(now, &reply, "submit %s to %c, tag %u", protocols[protocol], host, tag);
 }
 
 static void cancel(uint64_t now, uint8_t protocol, char host, uint16_t tag)
 {
-	struct head h = head_of(protocol, host, tag);
-	struct reply reply = port_cancel(list, SLOTS, port, (struct withdrawn){{h.destination, h.protocol, h.tag}, now});
+	struct sonerwal_open h = head_of(protocol, host, tag);
+	struct sonerwal_port_step reply = sonerwal_port_cancel(list, SLOTS, port, h.destination, h.protocol, h.tag, now);
 	port = reply.port;
 	tell(now, &reply, "cancel %s to %c, tag %u", protocols[protocol], host, tag);
 }
 
 static void choose(uint64_t now)
 {
-	struct reply reply = port_choose(list, SLOTS, port, (struct moment){now});
+	struct sonerwal_port_step reply = sonerwal_port_choose(list, SLOTS, port, now);
 	port = reply.port;
 	tell(now, &reply, "choose");
 }
 
 static void opened(uint64_t now, uint8_t phy)
 {
-	struct reply reply = port_opened(list, SLOTS, port, (struct confirmed){phy, now});
+	struct sonerwal_port_step reply = sonerwal_port_opened(list, SLOTS, port, phy, now);
 	port = reply.port;
 	tell(now, &reply, "opened, phy %u", phy);
 }
 
 static void open_failed(uint64_t now, uint8_t phy, uint8_t why)
 {
-	struct reply reply = port_open_failed(list, SLOTS, port, (struct failure){phy, why, now});
+	struct sonerwal_port_step reply = sonerwal_port_open_failed(list, SLOTS, port, phy, why, now);
 	port = reply.port;
 	tell(now, &reply, "open failed, phy %u: %s", phy, reasons[why]);
 }
 
 static void frame_status(uint64_t now, uint8_t phy, uint8_t status)
 {
-	struct reply reply = port_frame_status(list, SLOTS, port, (struct report){phy, status, now});
+	struct sonerwal_port_step reply = sonerwal_port_frame_status(list, SLOTS, port, phy, status, now);
 	port = reply.port;
 	tell(now, &reply, "frame status %02Xh, phy %u", status, phy);
 }
 
 static void closed(uint64_t now, uint8_t phy)
 {
-	struct reply reply = port_closed(list, SLOTS, port, (struct confirmed){phy, now});
+	struct sonerwal_port_step reply = sonerwal_port_closed(list, SLOTS, port, phy, now);
 	port = reply.port;
 	tell(now, &reply, "closed, phy %u", phy);
 }
 
 static void enable(uint64_t now, uint8_t phy)
 {
-	struct reply reply = port_enable(list, SLOTS, port, (struct confirmed){phy, now});
+	struct sonerwal_port_step reply = sonerwal_port_enable(list, SLOTS, port, phy, now);
 	port = reply.port;
 	tell(now, &reply, "enable phy %u", phy);
 }
 
 static void disable(uint64_t now, uint8_t phy)
 {
-	struct reply reply = port_disable(list, SLOTS, port, (struct confirmed){phy, now});
+	struct sonerwal_port_step reply = sonerwal_port_disable(list, SLOTS, port, phy, now);
 	port = reply.port;
 	tell(now, &reply, "disable phy %u", phy);
 }
@@ -585,7 +584,7 @@ static void refused(void)
 	chapter("13. Every refusal");
 	setup(2, 1);
 	enable(10, 0);
-	struct reply reply = port_choose(list, 31, port, (struct moment){10});
+	struct sonerwal_port_step reply = sonerwal_port_choose(list, 31, port, 10);
 	tell(10, &reply, "choose, with a list of 31 records");
 	submit(10, 3, 'A', 1);
 	open_failed(10, 0, PORT_LAYER_REQUEST);

@@ -1,8 +1,8 @@
 /*
- * Sonerwal: SAS frames for C firmware.
+ * Sonerwal: SAS storage logic for C firmware.
  *
- * Four calls read and write two frames: the OPEN address frame and the DATA frame of a read transfer.
- * They are proved against document 01, which this header names beside each rule as "01, section".
+ * The archive has five parts: the OPEN and DATA frames, the read transfer, the expander link (XL) and the port. Each is proved
+ * against document 01, the owner's scope, which this header names beside each rule as "01, section".
  *
  * LINKING
  *
@@ -11,26 +11,37 @@
  *
  *     cc -std=c99 -Iinclude program.c target/staticlib/libsonerwal.a -o program
  *
- * It needs memmove() of the C library and nothing else. The calls keep nothing between them and allocate
- * nothing. What one does depends on its arguments alone, so they may run at the same time wherever they don't
- * share memory that one of them writes.
+ * It needs memmove() and memcpy() of the C library and nothing else. The calls keep nothing between them and
+ * allocate nothing. What one does depends on its arguments alone, so they may run at the same time wherever they
+ * don't share memory that one of them writes.
  *
  * WHAT THE CALLER OWES
  *
  * The calls can't see whether these hold, and where one does not, nothing is promised:
  *
  *   - No pointer is null, not even one that goes with the length 0.
- *   - A length is true: that many bytes behind the pointer may be read, and written where the pointer is
- *     not to const.
+ *   - A length is true: that many bytes or records behind the pointer may be read, and written where the pointer
+ *     is not to const.
  *   - What one call is lent doesn't overlap: no two of its buffers and numbers share a byte.
- *   - Every number that a pointer names is aligned as its type asks and is another than the rest.
+ *   - What a pointer names is aligned as its type asks.
  *
- * Everything else is tested. Any bytes, any numbers and any lengths are taken and answered.
+ * Everything else is tested. Any bytes, any numbers, any lengths and any states are taken and answered.
+ *
+ * STATES
+ *
+ * A transfer, a link and a port are plain structs that the caller keeps. A call is given one by value and gives back the
+ * one to go on with, which may be copied, compared and saved like any other number. All zeros is the transfer before
+ * START, a link in XL0 that remembers nothing, and a port before setup. No struct that is lent has padding: what
+ * would be padding is a member named zero4, zero2 or zero1 by its bytes, and is 0 in every state that a call gives
+ * back. A state is looked at as a whole, so that one that no calls could have left is SONERWAL_REFUSED_RULES, and
+ * not a wrong step.
  *
  * ANSWERS (01, Refusal numbers)
  *
- * Each call answers SAS_OK, or a refusal. Lengths are tested before fields, so SAS_REFUSED_LENGTH hides
- * SAS_REFUSED_UNLISTED where both hold. A refusal leaves every lent byte and every lent number as it was.
+ * A call answers one byte, enum sonerwal_answer: SONERWAL_OK, a refusal of 1 to 10, or from 16 on what happened. Where several
+ * refusals apply the lowest number is given, but for sonerwal_transfer_next(), which has an order of its own.
+ * A refusal gives back the state as it was lent, to the last member, and leaves every lent byte, number and
+ * record as it was; so `s = r.state` is right after every call.
  */
 #ifndef SONERWAL_H
 #define SONERWAL_H
@@ -42,46 +53,75 @@
 extern "C" {
 #endif
 
-/* One number that grows with each version: 0.1.0 is 100. */
+/* One number that grows with each version: 0.2.0 is 200. */
 #define SONERWAL_VERSION_MAJOR 0
-#define SONERWAL_VERSION_MINOR 1
+#define SONERWAL_VERSION_MINOR 2
 #define SONERWAL_VERSION_PATCH 0
 #define SONERWAL_VERSION (SONERWAL_VERSION_MAJOR * 10000 + SONERWAL_VERSION_MINOR * 100 + SONERWAL_VERSION_PATCH)
 
-/* 01, Refusal numbers: those that the frame calls give. */
-enum sas_answer {
-	SAS_OK = 0,
-	SAS_REFUSED_LENGTH = 1,   /* a buffer has the wrong length */
-	SAS_REFUSED_UNLISTED = 2  /* a field isn't one that document 01 lists */
+/* Of the archive; equal to SONERWAL_VERSION if header and archive came together. */
+uint32_t sonerwal_version(void);
+
+/* A struct has the size that the archive gives it. */
+#define SONERWAL_SIZE(name, size) typedef char sonerwal_size_of_##name[sizeof(struct sonerwal_##name) == (size) ? 1 : -1]
+
+enum sonerwal_answer {
+	SONERWAL_OK = 0, /* taken, and nothing more to say */
+
+	/* 01, Refusal numbers */
+	SONERWAL_REFUSED_LENGTH = 1,   /* a buffer has the wrong length */
+	SONERWAL_REFUSED_UNLISTED = 2, /* a field or an event isn't one that document 01 lists */
+	SONERWAL_REFUSED_RULES = 3,    /* a setup number is out of range, or a lent state breaks its rules */
+	SONERWAL_REFUSED_PHY = 4,      /* the phy isn't one of the port's */
+	SONERWAL_REFUSED_PAST = 5,     /* the given time is before the port's last time */
+	SONERWAL_REFUSED_UNFIT = 6,    /* the call doesn't fit the state */
+	SONERWAL_REFUSED_DUE = 7,      /* a NAK was seen and answers are still due */
+	SONERWAL_REFUSED_SENT = 8,     /* every byte has been sent in this attempt */
+	SONERWAL_REFUSED_PRESENT = 9,  /* a request with this destination, protocol and tag is present */
+	SONERWAL_REFUSED_FULL = 10,    /* 32 requests are present, or 64 frames are unanswered */
+
+	/* 01, Read transfer */
+	SONERWAL_SENT = 16,  /* a frame goes */
+	SONERWAL_DRAIN = 17, /* a NAK was seen, and answers are still due */
+	SONERWAL_RETRY = 18, /* a resend begins, at the balance point */
+	SONERWAL_DONE = 19,  /* delivered: every requested byte was ACKed */
+	SONERWAL_FAIL = 20,  /* every resend is used */
+	SONERWAL_END = 21,   /* NEXUS or CANCEL ended it */
+
+	/* 01, XL, Link status */
+	SONERWAL_READY = 48,
+	SONERWAL_PARTIAL = 49,
+	SONERWAL_BLOCKED_PARTIAL = 50,
+	SONERWAL_CONNECTED = 51
 };
 
 /* ---- OPEN address frame (01, OPEN address frame) ----------------------------------------------------------- */
 
-#define SAS_OPEN_SIZE 28u
+#define SONERWAL_OPEN_SIZE 28u
 
-enum sas_protocol {
-	SAS_PROTOCOL_SMP = 0,
-	SAS_PROTOCOL_SSP = 1,
-	SAS_PROTOCOL_STP = 2
+enum sonerwal_protocol {
+	SONERWAL_PROTOCOL_SMP = 0,
+	SONERWAL_PROTOCOL_SSP = 1,
+	SONERWAL_PROTOCOL_STP = 2
 };
 
 /* Codes of the connection rate; 10 is SAS-2's. */
-enum sas_rate {
-	SAS_RATE_1_5_GBPS = 8,
-	SAS_RATE_3_GBPS = 9,
-	SAS_RATE_6_GBPS = 10
+enum sonerwal_rate {
+	SONERWAL_RATE_1_5_GBPS = 8,
+	SONERWAL_RATE_3_GBPS = 9,
+	SONERWAL_RATE_6_GBPS = 10
 };
 
-#define SAS_FEATURES_MAX 15u
+#define SONERWAL_FEATURES_MAX 15u
 
 /*
  * The fields of an OPEN address frame.
  *
  *   field        range               place in the frame
  *   initiator    0 or 1              byte 0, bit 7
- *   protocol     0 to 2              byte 0, bits 6 to 4    enum sas_protocol
+ *   protocol     0 to 2              byte 0, bits 6 to 4    enum sonerwal_protocol
  *   features     0 to 15             byte 1, bits 7 to 4
- *   rate         8 to 10             byte 1, bits 3 to 0    enum sas_rate
+ *   rate         8 to 10             byte 1, bits 3 to 0    enum sonerwal_rate
  *   tag          any                 bytes 2 and 3          initiator connection tag
  *   destination  any                 bytes 4 to 11          SAS address
  *   source       any                 bytes 12 to 19         SAS address
@@ -89,67 +129,87 @@ enum sas_rate {
  *   awt          any                 bytes 22 and 23        arbitration wait time, as coded in the frame
  *
  * Byte 0, bits 3 to 0 are the type, 1. Bytes 20 and 24 to 27 aren't carried. Numbers are big-endian in the
- * frame and plain numbers here.
+ * frame and plain numbers here. The zero members are 0 in a frame that comes back; of a frame that is given
+ * to a call they are not looked at, but of one within a lent state they are.
  */
-struct sas_open {
+struct sonerwal_open {
 	uint64_t destination;
 	uint64_t source;
+	uint32_t zero4;
 	uint16_t tag;
 	uint16_t awt;
+	uint16_t zero2;
 	uint8_t initiator;
 	uint8_t protocol;
 	uint8_t features;
 	uint8_t rate;
 	uint8_t pbc;
+	uint8_t zero1;
 };
+SONERWAL_SIZE(open, 32);
 
 /*
- * Reads an OPEN address frame; sas_open_get() is the same call over the struct.
+ * Reads an OPEN address frame; sonerwal_open_get() is the same call over the struct.
  *
  * Answers, the first that holds:
- *   SAS_REFUSED_LENGTH    frame_len is not 28
- *   SAS_REFUSED_UNLISTED  the type is not 1, the protocol is above 2, or the rate is below 8 or above 10
- *   SAS_OK                each number holds its field
+ *   SONERWAL_REFUSED_LENGTH    frame_len is not 28
+ *   SONERWAL_REFUSED_UNLISTED  the type is not 1, the protocol is above 2, or the rate is below 8 or above 10
+ *   SONERWAL_OK                each number holds its field
  * Bytes 20 and 24 to 27 may have any value. The frame is only read.
  */
-uint8_t sas_open_read(const uint8_t *frame, size_t frame_len, uint8_t *initiator, uint8_t *protocol, uint8_t *features,
-                      uint8_t *rate, uint16_t *tag, uint64_t *destination, uint64_t *source, uint8_t *pbc,
-                      uint16_t *awt);
+uint8_t sonerwal_open_read(const uint8_t *frame, size_t frame_len, uint8_t *initiator, uint8_t *protocol,
+                           uint8_t *features, uint8_t *rate, uint16_t *tag, uint64_t *destination, uint64_t *source,
+                           uint8_t *pbc, uint16_t *awt);
 
 /*
- * Writes an OPEN address frame; sas_open_put() is the same call over the struct.
+ * Writes an OPEN address frame; sonerwal_open_put() is the same call over the struct.
  *
  * Answers, the first that holds:
- *   SAS_REFUSED_LENGTH    frame_len is not 28
- *   SAS_REFUSED_UNLISTED  initiator is above 1, protocol above 2, features above 15, or rate below 8 or above 10
- *   SAS_OK                all 28 bytes are written, bytes 20 and 24 to 27 as zero
+ *   SONERWAL_REFUSED_LENGTH    frame_len is not 28
+ *   SONERWAL_REFUSED_UNLISTED  initiator is above 1, protocol above 2, features above 15, or rate below 8 or above 10
+ *   SONERWAL_OK                all 28 bytes are written, bytes 20 and 24 to 27 as zero
  */
-uint8_t sas_open_write(uint8_t initiator, uint8_t protocol, uint8_t features, uint8_t rate, uint16_t tag,
-                       uint64_t destination, uint64_t source, uint8_t pbc, uint16_t awt, uint8_t *frame,
-                       size_t frame_len);
+uint8_t sonerwal_open_write(uint8_t initiator, uint8_t protocol, uint8_t features, uint8_t rate, uint16_t tag,
+                            uint64_t destination, uint64_t source, uint8_t pbc, uint16_t awt, uint8_t *frame,
+                            size_t frame_len);
 
-/* Reads the frame into *open, with sas_open_read()'s answers; a refusal leaves *open as it was. */
-static inline uint8_t sas_open_get(struct sas_open *open, const uint8_t *frame, size_t frame_len)
+/* Reads the frame into *open, with sonerwal_open_read()'s answers; a refusal leaves *open as it was. */
+static inline uint8_t sonerwal_open_get(struct sonerwal_open *open, const uint8_t *frame, size_t frame_len)
 {
-	return sas_open_read(frame, frame_len, &open->initiator, &open->protocol, &open->features, &open->rate,
-	                     &open->tag, &open->destination, &open->source, &open->pbc, &open->awt);
+	uint8_t answer = sonerwal_open_read(frame, frame_len, &open->initiator, &open->protocol, &open->features,
+	                                    &open->rate, &open->tag, &open->destination, &open->source, &open->pbc,
+	                                    &open->awt);
+	if (answer == SONERWAL_OK) {
+		open->zero4 = 0;
+		open->zero2 = 0;
+		open->zero1 = 0;
+	}
+	return answer;
 }
 
-/* Writes *open into the frame, with sas_open_write()'s answers. */
-static inline uint8_t sas_open_put(const struct sas_open *open, uint8_t *frame, size_t frame_len)
+/* Writes *open into the frame, with sonerwal_open_write()'s answers. */
+static inline uint8_t sonerwal_open_put(const struct sonerwal_open *open, uint8_t *frame, size_t frame_len)
 {
-	return sas_open_write(open->initiator, open->protocol, open->features, open->rate, open->tag,
-	                      open->destination, open->source, open->pbc, open->awt, frame, frame_len);
+	return sonerwal_open_write(open->initiator, open->protocol, open->features, open->rate, open->tag,
+	                           open->destination, open->source, open->pbc, open->awt, frame, frame_len);
 }
+
+/* Microseconds that a request has waited, as OPEN codes them: below 32,768 themselves, from there 32,768 plus the whole
+ * thousands of the rest, at most 65,535. */
+uint16_t sonerwal_wait_value(uint64_t elapsed);
+
+/* 1 if an OPEN of this AWT and source is of higher priority than the other, else 0: a larger AWT, or an equal one and
+ * a larger source. */
+uint8_t sonerwal_open_higher(uint16_t awt, uint64_t source, uint16_t other_awt, uint64_t other_source);
 
 /* ---- DATA frame (01, Read transfer, DATA frame) ------------------------------------------------------------ */
 
-#define SAS_DATA_HEADER_SIZE 24u /* the data starts here */
-#define SAS_DATA_BODY_MIN 1u
-#define SAS_DATA_BODY_MAX 1024u
-#define SAS_DATA_SIZE_MIN 28u
-#define SAS_DATA_SIZE_MAX 1048u
-#define SAS_HASHED_ADDRESS_MAX 0xFFFFFFu
+#define SONERWAL_DATA_HEADER_SIZE 24u /* the data starts here */
+#define SONERWAL_DATA_BODY_MIN 1u
+#define SONERWAL_DATA_BODY_MAX 1024u
+#define SONERWAL_DATA_SIZE_MIN 28u
+#define SONERWAL_DATA_SIZE_MAX 1048u
+#define SONERWAL_HASHED_ADDRESS_MAX 0xFFFFFFu
 
 /*
  * The fields of a DATA frame.
@@ -164,9 +224,10 @@ static inline uint8_t sas_open_put(const struct sas_open *open, uint8_t *frame, 
  *
  * Byte 0 is the type, 1. Byte 11 is the fill count: 0 to 3 zero bytes behind the data, to a multiple of four.
  * Bytes 18 and 19, the transfer tag, are FF. Bytes 4, 8, 9 and 12 to 15 are zero. Numbers are big-endian in
- * the frame and plain numbers here.
+ * the frame and plain numbers here. The struct is the header's own: the archive is given numbers, so it may
+ * have padding.
  */
-struct sas_data {
+struct sonerwal_data {
 	uint32_t hashed_destination;
 	uint32_t hashed_source;
 	uint32_t offset;
@@ -176,58 +237,400 @@ struct sas_data {
 };
 
 /*
- * Reads a DATA frame; sas_data_get() is the same call over the struct.
+ * Reads a DATA frame; sonerwal_data_get() is the same call over the struct.
  *
  * Answers, the first that holds:
- *   SAS_REFUSED_LENGTH    frame_len is below 28, above 1,048, or no multiple of four
- *   SAS_REFUSED_UNLISTED  byte 0 is not 1; byte 4, 8, 9, 12, 13, 14 or 15 is not 0; byte 10 is above 1; byte 11 is
- *                         above 3; byte 18 or 19 is not FF; or one of the frame's last bytes, as many as byte 11
- *                         says, is not 0
- *   SAS_OK                each number holds its field; *length = frame_len - 24 - byte 11
+ *   SONERWAL_REFUSED_LENGTH    frame_len is below 28, above 1,048, or no multiple of four
+ *   SONERWAL_REFUSED_UNLISTED  byte 0 is not 1; byte 4, 8, 9, 12, 13, 14 or 15 is not 0; byte 10 is above 1; byte 11 is
+ *                              above 3; byte 18 or 19 is not FF; or one of the frame's last bytes, as many as byte 11
+ *                              says, is not 0
+ *   SONERWAL_OK                each number holds its field; *length = frame_len - 24 - byte 11
  * The data isn't copied: it is the *length bytes from frame + 24 on. The frame is only read.
  */
-uint8_t sas_data_read(const uint8_t *frame, size_t frame_len, uint32_t *hashed_destination, uint32_t *hashed_source,
-                      uint8_t *changing, uint16_t *tag, uint32_t *offset, uint16_t *length);
+uint8_t sonerwal_data_read(const uint8_t *frame, size_t frame_len, uint32_t *hashed_destination,
+                           uint32_t *hashed_source, uint8_t *changing, uint16_t *tag, uint32_t *offset,
+                           uint16_t *length);
 
 /*
- * Writes a DATA frame around body; sas_data_put() is the same call over the struct.
+ * Writes a DATA frame around body; sonerwal_data_put() is the same call over the struct. A transfer's own frames are
+ * written by sonerwal_transfer_next().
  *
  * Answers, the first that holds:
- *   SAS_REFUSED_LENGTH    body_len is 0 or above 1,024, or frame_len is below sas_data_size(body_len)
- *   SAS_REFUSED_UNLISTED  hashed_destination or hashed_source is above FFFFFF, or changing is above 1
- *   SAS_OK                the first sas_data_size(body_len) bytes are written; those past them stay
+ *   SONERWAL_REFUSED_LENGTH    body_len is 0 or above 1,024, or frame_len is below sonerwal_data_size(body_len)
+ *   SONERWAL_REFUSED_UNLISTED  hashed_destination or hashed_source is above FFFFFF, or changing is above 1
+ *   SONERWAL_OK                the first sonerwal_data_size(body_len) bytes are written; those past them stay
  * The body is only read.
  */
-uint8_t sas_data_write(uint32_t hashed_destination, uint32_t hashed_source, uint8_t changing, uint16_t tag,
-                       uint32_t offset, const uint8_t *body, size_t body_len, uint8_t *frame, size_t frame_len);
+uint8_t sonerwal_data_write(uint32_t hashed_destination, uint32_t hashed_source, uint8_t changing, uint16_t tag,
+                            uint32_t offset, const uint8_t *body, size_t body_len, uint8_t *frame, size_t frame_len);
 
 /* Bytes of the DATA frame around body_len data bytes, fill included; 0 where there is no such frame. */
-static inline size_t sas_data_size(size_t body_len)
+static inline size_t sonerwal_data_size(size_t body_len)
 {
-	if (body_len < SAS_DATA_BODY_MIN || body_len > SAS_DATA_BODY_MAX) {
+	if (body_len < SONERWAL_DATA_BODY_MIN || body_len > SONERWAL_DATA_BODY_MAX) {
 		return 0;
 	}
-	return SAS_DATA_HEADER_SIZE + (body_len + 3u) / 4u * 4u;
+	return SONERWAL_DATA_HEADER_SIZE + (body_len + 3u) / 4u * 4u;
 }
 
-/* Where the data of a DATA frame starts; sas_data_get() says how long it is. */
-static inline const uint8_t *sas_data_body(const uint8_t *frame)
+/* Where the data of a DATA frame starts; sonerwal_data_get() says how long it is. */
+static inline const uint8_t *sonerwal_data_body(const uint8_t *frame)
 {
-	return frame + SAS_DATA_HEADER_SIZE;
+	return frame + SONERWAL_DATA_HEADER_SIZE;
 }
 
-/* Reads the frame into *data, with sas_data_read()'s answers; a refusal leaves *data as it was. */
-static inline uint8_t sas_data_get(struct sas_data *data, const uint8_t *frame, size_t frame_len)
+/* Reads the frame into *data, with sonerwal_data_read()'s answers; a refusal leaves *data as it was. */
+static inline uint8_t sonerwal_data_get(struct sonerwal_data *data, const uint8_t *frame, size_t frame_len)
 {
-	return sas_data_read(frame, frame_len, &data->hashed_destination, &data->hashed_source, &data->changing,
-	                     &data->tag, &data->offset, &data->length);
+	return sonerwal_data_read(frame, frame_len, &data->hashed_destination, &data->hashed_source, &data->changing,
+	                          &data->tag, &data->offset, &data->length);
 }
 
-/* Writes *data around body, which has data->length bytes, with sas_data_write()'s answers. */
-static inline uint8_t sas_data_put(const struct sas_data *data, const uint8_t *body, uint8_t *frame, size_t frame_len)
+/* Writes *data around body, which has data->length bytes, with sonerwal_data_write()'s answers. */
+static inline uint8_t sonerwal_data_put(const struct sonerwal_data *data, const uint8_t *body, uint8_t *frame,
+                                        size_t frame_len)
 {
-	return sas_data_write(data->hashed_destination, data->hashed_source, data->changing, data->tag, data->offset,
-	                      body, data->length, frame, frame_len);
+	return sonerwal_data_write(data->hashed_destination, data->hashed_source, data->changing, data->tag,
+	                           data->offset, body, data->length, frame, frame_len);
+}
+
+/* ---- Read transfer (01, Read transfer) --------------------------------------------------------------------- */
+
+/* Frames that may be unanswered at a time. */
+#define SONERWAL_UNANSWERED_MAX 64u
+
+enum sonerwal_phase {
+	SONERWAL_PHASE_NEW = 0,    /* before START */
+	SONERWAL_PHASE_RUN = 1,    /* frames go, and answers come */
+	SONERWAL_PHASE_DRAIN = 2,  /* a NAK was seen, and answers are still due */
+	SONERWAL_PHASE_DONE = 3,   /* every requested byte was ACKed */
+	SONERWAL_PHASE_FAILED = 4, /* a NAK, TIMEOUT or LOST came with every resend used */
+	SONERWAL_PHASE_ENDED = 5   /* NEXUS or CANCEL came */
+};
+
+/*
+ * A read transfer.
+ *
+ *   offset      B: where the request begins
+ *   count       N: its bytes, 1 or more; offset + count is at most 4,294,967,295
+ *   size        M: the longest frame's data, a multiple of 4 from 4 to 1,024
+ *   resends     R: how many are allowed, 0 to 255
+ *   read        read offset: of the next frame's first byte
+ *   balance     balance point: every requested byte before it was in a frame whose ACK was reported
+ *   unanswered  frames with no answer yet, 0 to 64; 0 once finished
+ *   used        resends used, 0 to resends
+ *   sent        1 if a frame was sent in the present attempt, else 0
+ *   phase       enum sonerwal_phase
+ *
+ * Its rules: it is all zeros, or what some START and calls after it leave; the test of that is exact.
+ */
+struct sonerwal_transfer {
+	uint32_t offset;
+	uint32_t count;
+	uint32_t size;
+	uint32_t resends;
+	uint32_t read;
+	uint32_t balance;
+	uint32_t unanswered;
+	uint32_t used;
+	uint16_t zero2;
+	uint8_t sent;
+	uint8_t phase;
+};
+SONERWAL_SIZE(transfer, 36);
+
+/* What a call gives: the transfer to go on with, and the answer. What lies behind the answer isn't promised. */
+struct sonerwal_transfer_step {
+	struct sonerwal_transfer state;
+	uint8_t answer;
+};
+
+/* Keeps the state that a call gave, and says its answer:
+ *     answer = sonerwal_transfer_keep(&s, sonerwal_transfer_ack(s)); */
+static inline uint8_t sonerwal_transfer_keep(struct sonerwal_transfer *s, struct sonerwal_transfer_step step)
+{
+	*s = step.state;
+	return step.answer;
+}
+
+/*
+ * START: count bytes from offset on, in frames of at most size, with so many resends.
+ *
+ *   SONERWAL_REFUSED_RULES  a number is out of its range, or s breaks its rules
+ *   SONERWAL_REFUSED_UNFIT  s is a transfer that isn't finished
+ *   SONERWAL_OK             in run: read offset and balance point at offset, nothing sent
+ */
+struct sonerwal_transfer_step sonerwal_transfer_start(struct sonerwal_transfer s, uint32_t offset, uint32_t count,
+                                                      uint32_t size, uint32_t resends);
+
+/*
+ * FRAME: the next frame goes, of sonerwal_transfer_length() bytes at the read offset. For firmware that writes its frames
+ * by itself; sonerwal_transfer_next() does both.
+ *
+ *   SONERWAL_REFUSED_RULES  s breaks its rules
+ *   SONERWAL_REFUSED_UNFIT  before START, or finished
+ *   SONERWAL_REFUSED_DUE    a NAK was seen and answers are still due
+ *   SONERWAL_REFUSED_SENT   every byte has been sent in this attempt
+ *   SONERWAL_REFUSED_FULL   64 frames are unanswered
+ *   SONERWAL_SENT           the read offset moved past it, and one more is unanswered
+ */
+struct sonerwal_transfer_step sonerwal_transfer_frame(struct sonerwal_transfer s);
+
+/*
+ * The answers to the oldest unanswered frame, ACK and NAK; the ACK/NAK timeout; and a connection lost, with which all that
+ * is unanswered is lost.
+ *
+ *   SONERWAL_REFUSED_RULES  s breaks its rules
+ *   SONERWAL_REFUSED_UNFIT  before START, finished, or no frame is unanswered
+ *   SONERWAL_OK             ACK: it goes on; with none unanswered the balance point is the read offset
+ *   SONERWAL_DONE           ACK: the last byte was ACKed
+ *   SONERWAL_DRAIN          ACK, NAK: a NAK was seen, and answers are still due
+ *   SONERWAL_RETRY          a resend begins: the read offset is the balance point
+ *   SONERWAL_FAIL           NAK, timeout, lost: every resend is used
+ */
+struct sonerwal_transfer_step sonerwal_transfer_ack(struct sonerwal_transfer s);
+struct sonerwal_transfer_step sonerwal_transfer_nak(struct sonerwal_transfer s);
+struct sonerwal_transfer_step sonerwal_transfer_timeout(struct sonerwal_transfer s);
+struct sonerwal_transfer_step sonerwal_transfer_lost(struct sonerwal_transfer s);
+
+/*
+ * NEXUS (I_T nexus loss) and CANCEL.
+ *
+ *   SONERWAL_REFUSED_RULES  s breaks its rules
+ *   SONERWAL_REFUSED_UNFIT  before START, or finished
+ *   SONERWAL_END            ended at once
+ */
+struct sonerwal_transfer_step sonerwal_transfer_nexus(struct sonerwal_transfer s);
+struct sonerwal_transfer_step sonerwal_transfer_cancel(struct sonerwal_transfer s);
+
+/*
+ * The next-frame call: writes the DATA frame at the read offset around body and takes FRAME's step.
+ *
+ * body has sonerwal_transfer_length(s) bytes, of the image from s.read on; frame has room for sonerwal_data_size() of
+ * them. Answers, the first that holds:
+ *   SONERWAL_REFUSED_RULES, _UNFIT, _DUE, _SENT, _FULL  as sonerwal_transfer_frame()
+ *   SONERWAL_REFUSED_UNLISTED  hashed_destination or hashed_source is above FFFFFF
+ *   SONERWAL_REFUSED_LENGTH    body_len isn't sonerwal_transfer_length(s), or frame_len is below the frame's size
+ *   SONERWAL_SENT              the frame stands at the front of frame; the bytes past it stay
+ */
+struct sonerwal_transfer_step sonerwal_transfer_next(struct sonerwal_transfer s, uint32_t hashed_destination,
+                                                     uint32_t hashed_source, uint16_t tag, const uint8_t *body,
+                                                     size_t body_len, uint8_t *frame, size_t frame_len);
+
+/* Of the next frame's data; 0 where sonerwal_transfer_frame() refuses, which says why. */
+uint32_t sonerwal_transfer_length(struct sonerwal_transfer s);
+
+/* ---- Expander link (01, XL: one event, one step) ----------------------------------------------------------- */
+
+/* The states, 0 to 10. */
+enum sonerwal_xl {
+	SONERWAL_XL_0 = 0,  /* idle */
+	SONERWAL_XL_1 = 1,  /* requests a path */
+	SONERWAL_XL_2 = 2,  /* requests the OPEN to be forwarded */
+	SONERWAL_XL_3 = 3,  /* waits for the answer to the OPEN that it forwarded */
+	SONERWAL_XL_4 = 4,  /* rejects an OPEN */
+	SONERWAL_XL_5 = 5,  /* forwards an OPEN, which it transmits */
+	SONERWAL_XL_6 = 6,  /* waits for the answer to the OPEN that it transmitted */
+	SONERWAL_XL_7 = 7,  /* connected */
+	SONERWAL_XL_8 = 8,  /* waits for CLOSE */
+	SONERWAL_XL_9 = 9,  /* answers BREAK */
+	SONERWAL_XL_10 = 10 /* waits for the answer to BREAK */
+};
+
+/*
+ * What a link hears and does. A number serves the event and the action alike, so that what one link says is what another
+ * hears: an action of 16 to 23 is the event to give to the other link.
+ */
+enum sonerwal_kind {
+	SONERWAL_KIND_NONE = 0, /* no action; as an event it is refused */
+
+	/* Received or transmitted by the phy. */
+	SONERWAL_KIND_OPEN = 1, /* with a frame */
+	SONERWAL_KIND_OPEN_ACCEPT = 2,
+	SONERWAL_KIND_OPEN_REJECT = 3, /* detail: enum sonerwal_reject */
+	SONERWAL_KIND_AIP = 4,         /* detail: enum sonerwal_wait */
+	SONERWAL_KIND_CLOSE = 5,
+	SONERWAL_KIND_BREAK = 6,
+
+	/* From or to the router. */
+	SONERWAL_KIND_SEND_OPEN = 16, /* with a frame */
+	SONERWAL_KIND_SEND_CLOSE = 17,
+	SONERWAL_KIND_SEND_BREAK = 18,
+	SONERWAL_KIND_ARB_STATUS = 19, /* detail: enum sonerwal_wait */
+	SONERWAL_KIND_ROUTER_OPEN_ACCEPT = 20,
+	SONERWAL_KIND_ROUTER_OPEN_REJECT = 21, /* detail: enum sonerwal_reject */
+	SONERWAL_KIND_BACKOFF_RETRY = 22,
+	SONERWAL_KIND_BACKOFF_REVERSE_PATH = 23, /* with a frame */
+
+	/* From the connection manager, and to it. */
+	SONERWAL_KIND_ARB_WON = 32,
+	SONERWAL_KIND_ARB_LOST = 33,
+	SONERWAL_KIND_ARB_REJECT = 34,   /* detail: enum sonerwal_denial */
+	SONERWAL_KIND_ARBITRATING = 35,  /* detail: enum sonerwal_arbitrating */
+	SONERWAL_KIND_REQUEST_PATH = 40, /* an action only; detail: 1 with timeout status, else 0 */
+
+	/* From the link's own phy. */
+	SONERWAL_KIND_PATH_TIMER = 48, /* the path timer expired */
+	SONERWAL_KIND_SENT = 49,       /* the OPEN_REJECT of XL4, the OPEN of XL5 or the BREAK of XL9 is on the line */
+	SONERWAL_KIND_FORWARDED = 50,  /* the router took the OPEN of XL2 */
+	SONERWAL_KIND_BREAK_TIMEOUT = 51,
+
+	SONERWAL_KIND_DISABLE = 63
+};
+
+/* The kinds of OPEN_REJECT. */
+enum sonerwal_reject {
+	SONERWAL_REJECT_NO_DESTINATION = 0,
+	SONERWAL_REJECT_BAD_DESTINATION = 1,
+	SONERWAL_REJECT_WRONG_DESTINATION = 2,
+	SONERWAL_REJECT_CONNECTION_RATE = 3, /* not supported */
+	SONERWAL_REJECT_PROTOCOL = 4,        /* not supported */
+	SONERWAL_REJECT_PATHWAY_BLOCKED = 5,
+	SONERWAL_REJECT_STP_BUSY = 6, /* STP resources busy */
+	SONERWAL_REJECT_RETRY = 7
+};
+
+/* The kinds of AIP and of ArbStatus. */
+enum sonerwal_wait {
+	SONERWAL_WAIT_NORMAL = 0,
+	SONERWAL_WAIT_PARTIAL = 1,    /* waiting on partial */
+	SONERWAL_WAIT_CONNECTION = 2, /* waiting on connection */
+	SONERWAL_WAIT_DEVICE = 3      /* waiting on device */
+};
+
+/* The kinds of ArbReject. */
+enum sonerwal_denial {
+	SONERWAL_DENIAL_NO_DESTINATION = 0,
+	SONERWAL_DENIAL_BAD_DESTINATION = 1,
+	SONERWAL_DENIAL_BAD_LINK_RATE = 2,
+	SONERWAL_DENIAL_PATHWAY_BLOCKED = 3
+};
+
+/* The kinds of Arbitrating. */
+enum sonerwal_arbitrating {
+	SONERWAL_ARBITRATING_WAITING_ON_PARTIAL = 0,
+	SONERWAL_ARBITRATING_BLOCKED_ON_PARTIAL = 1,
+	SONERWAL_ARBITRATING_WAITING_ON_CONNECTION = 2
+};
+
+/* A detail where its kind has none is 0. */
+struct sonerwal_event {
+	uint8_t kind; /* enum sonerwal_kind */
+	uint8_t detail;
+};
+SONERWAL_SIZE(event, 2);
+
+struct sonerwal_action {
+	uint8_t kind; /* enum sonerwal_kind */
+	uint8_t detail;
+};
+SONERWAL_SIZE(action, 2);
+
+/*
+ * An expander link of one phy.
+ *
+ *   held        the frame that it works for, received or transmitted; all zeros if has_held is 0
+ *   heard       the latest OPEN received in XL5; all zeros if has_heard is 0
+ *   unexpected  events that their state doesn't list; stops at 4,294,967,295
+ *   phase       enum sonerwal_xl
+ *   has_held, has_heard  1 if there is such a frame, else 0
+ *   aip         the latest AIP or ArbStatus: 0 none, else 1 + its enum sonerwal_wait
+ *   broke       1 if BREAK was received, else 0
+ *   close       1 if CLOSE was received, else 0
+ *   blocked     1 if the last Arbitrating of this stay in XL1 was Blocked On Partial, else 0
+ *
+ * Its rules: every number in its range, every zero member 0, held and heard of OPEN's fields, and in XL1 to XL6 a frame is held.
+ */
+struct sonerwal_link {
+	struct sonerwal_open held;
+	struct sonerwal_open heard;
+	uint32_t unexpected;
+	uint32_t zero4;
+	uint8_t phase;
+	uint8_t has_held;
+	uint8_t has_heard;
+	uint8_t aip;
+	uint8_t broke;
+	uint8_t close;
+	uint8_t blocked;
+	uint8_t zero1;
+};
+SONERWAL_SIZE(link, 80);
+
+/* What a call gives: the link to go on with, what is to be done, in order, with none behind the last, and the answer. What
+ * lies behind the answer isn't promised. */
+struct sonerwal_link_step {
+	struct sonerwal_link state;
+	struct sonerwal_action action[4];
+	uint8_t answer;
+};
+
+/* Keeps the state that a call gave, and says its answer. */
+static inline uint8_t sonerwal_link_keep(struct sonerwal_link *s, struct sonerwal_link_step step)
+{
+	*s = step.state;
+	return step.answer;
+}
+
+/* The frame that an OPEN, a SendOpen, a BackoffReversePath or a RequestPath of the step speaks of: the one that the new state holds. */
+static inline const struct sonerwal_open *sonerwal_link_frame(const struct sonerwal_link_step *step)
+{
+	return &step->state.held;
+}
+
+/*
+ * One event, one step. frame is looked at for the kinds OPEN, SEND_OPEN and BACKOFF_REVERSE_PATH alone.
+ *
+ *   SONERWAL_REFUSED_UNLISTED  kind and detail name no event, or the event's frame has not the fields of OPEN
+ *   SONERWAL_REFUSED_RULES     s breaks its rules
+ *   SONERWAL_OK                taken; an event that its state doesn't list only counts in unexpected
+ * With a refusal the four actions are 0 0.
+ */
+struct sonerwal_link_step sonerwal_link_event(struct sonerwal_link s, struct sonerwal_event e,
+                                              struct sonerwal_open frame);
+
+/*
+ * An OPEN received, as bytes.
+ *
+ *   SONERWAL_REFUSED_LENGTH, _UNLISTED  as sonerwal_open_read()
+ *   SONERWAL_REFUSED_RULES              s breaks its rules
+ *   SONERWAL_OK                         taken
+ */
+struct sonerwal_link_step sonerwal_link_receive(struct sonerwal_link s, const uint8_t *frame, size_t frame_len);
+
+/* What the connection manager is told of the link: SONERWAL_READY, _PARTIAL, _BLOCKED_PARTIAL or _CONNECTED; or
+ * SONERWAL_REFUSED_RULES: s breaks its rules. */
+uint8_t sonerwal_link_status(struct sonerwal_link s);
+
+/* ---- For logs ---------------------------------------------------------------------------------------------- */
+
+/* An answer's word in small letters; "refused: " and what for; "unnamed" for a number that is no answer. */
+static inline const char *sonerwal_answer_name(uint8_t answer)
+{
+	switch (answer) {
+	case SONERWAL_OK: return "ok";
+	case SONERWAL_REFUSED_LENGTH: return "refused: length";
+	case SONERWAL_REFUSED_UNLISTED: return "refused: unlisted";
+	case SONERWAL_REFUSED_RULES: return "refused: rules";
+	case SONERWAL_REFUSED_PHY: return "refused: phy";
+	case SONERWAL_REFUSED_PAST: return "refused: past";
+	case SONERWAL_REFUSED_UNFIT: return "refused: unfit";
+	case SONERWAL_REFUSED_DUE: return "refused: due";
+	case SONERWAL_REFUSED_SENT: return "refused: sent";
+	case SONERWAL_REFUSED_PRESENT: return "refused: present";
+	case SONERWAL_REFUSED_FULL: return "refused: full";
+	case SONERWAL_SENT: return "sent";
+	case SONERWAL_DRAIN: return "drain";
+	case SONERWAL_RETRY: return "retry";
+	case SONERWAL_DONE: return "done";
+	case SONERWAL_FAIL: return "fail";
+	case SONERWAL_END: return "end";
+	case SONERWAL_READY: return "ready";
+	case SONERWAL_PARTIAL: return "partial";
+	case SONERWAL_BLOCKED_PARTIAL: return "blocked partial";
+	case SONERWAL_CONNECTED: return "connected";
+	default: return "unnamed";
+	}
 }
 
 #ifdef __cplusplus

@@ -41,6 +41,15 @@ void noise_fill(void *at, size_t count)
 	}
 }
 
+/* Volatile, so that the stores stay though nobody reads them; of another file, so that no caller has it inside. */
+void stain_stack(uint8_t pattern)
+{
+	volatile uint8_t stack[2048];
+	for (size_t i = 0; i < sizeof stack; i++) {
+		stack[i] = pattern;
+	}
+}
+
 bool check(bool holds, const char *format, ...)
 {
 	if (holds) {

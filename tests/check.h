@@ -12,6 +12,9 @@ uint64_t noise(void);
 uint64_t noise_below(uint64_t bound);
 void noise_fill(void *at, size_t count);
 
+/* Fills the stack below the caller with a pattern, so that a byte that a call leaves unwritten shows. */
+void stain_stack(uint8_t pattern);
+
 /* One check of the program; a failed one says what was wrong on a line of its own. */
 bool check(bool holds, const char *format, ...)
 #ifdef __GNUC__

@@ -65,7 +65,7 @@ static void data_read_case(struct test *test, size_t len)
 		store_for_plain(data_fields, seen, DATA_FIELDS);
 		seen[DATA_FILL] = frame_of(&lent_plain)[11];
 	}
-	uint8_t answer = sas_data_read(frame_of(&lent_ours), len, &n[DATA_HASHED_DESTINATION].at.u32,
+	uint8_t answer = sonerwal_data_read(frame_of(&lent_ours), len, &n[DATA_HASHED_DESTINATION].at.u32,
 	                               &n[DATA_HASHED_SOURCE].at.u32, &n[DATA_CHANGING].at.u8, &n[DATA_TAG].at.u16,
 	                               &n[DATA_OFFSET].at.u32, &n[DATA_LENGTH].at.u16);
 	judge(test, &data_read, answer, faults, seen);
@@ -84,7 +84,7 @@ static void data_write_case(struct test *test, uint64_t v[SEEN], size_t len)
 	lend(len, body_len);
 	copy_for_plain();
 	plain_faults faults = plain_data_write(v, body_of(&lent_plain), frame_of(&lent_plain), len);
-	uint8_t answer = sas_data_write((uint32_t)v[DATA_HASHED_DESTINATION], (uint32_t)v[DATA_HASHED_SOURCE],
+	uint8_t answer = sonerwal_data_write((uint32_t)v[DATA_HASHED_DESTINATION], (uint32_t)v[DATA_HASHED_SOURCE],
 	                                (uint8_t)v[DATA_CHANGING], (uint16_t)v[DATA_TAG], (uint32_t)v[DATA_OFFSET],
 	                                body_of(&lent_ours), body_len, frame_of(&lent_ours), len);
 	judge(test, &data_write, answer, faults, v);
@@ -211,7 +211,7 @@ static void data_sizes(struct test *test)
 		size_t asked = body_len <= LONGEST ? body_len : SIZE_MAX;
 		size_t expected = asked < 1 || asked > 1024 ? 0 : data_frame_len(asked);
 		test->cases++;
-		test->failed += sas_data_size(asked) != expected;
+		test->failed += sonerwal_data_size(asked) != expected;
 	}
 }
 

@@ -1,6 +1,6 @@
 /*
  * The two calls of libsonerwal.a for OPEN frames against the plain coder: more than a million good and damaged calls,
- * judged as frame_cases.h says.
+ * judged as frame_cases.h says. And the wait value and the priority of an OPEN.
  *
  * Usage: frames_open [SEED]
  *
@@ -72,10 +72,10 @@ static bool open_read_case(struct test *test, size_t len)
 		store_for_plain(open_fields, seen, OPEN_FIELDS);
 		seen[OPEN_UNCARRIED] = uncarried_not_zero(frame_of(&lent_plain));
 	}
-	uint8_t answer = sas_open_read(frame_of(&lent_ours), len, &n[OPEN_INITIATOR].at.u8, &n[OPEN_PROTOCOL].at.u8,
-	                               &n[OPEN_FEATURES].at.u8, &n[OPEN_RATE].at.u8, &n[OPEN_TAG].at.u16,
-	                               &n[OPEN_DESTINATION].at.u64, &n[OPEN_SOURCE].at.u64, &n[OPEN_PBC].at.u8,
-	                               &n[OPEN_AWT].at.u16);
+	uint8_t answer = sonerwal_open_read(frame_of(&lent_ours), len, &n[OPEN_INITIATOR].at.u8, &n[OPEN_PROTOCOL].at.u8,
+	                                    &n[OPEN_FEATURES].at.u8, &n[OPEN_RATE].at.u8, &n[OPEN_TAG].at.u16,
+	                                    &n[OPEN_DESTINATION].at.u64, &n[OPEN_SOURCE].at.u64, &n[OPEN_PBC].at.u8,
+	                                    &n[OPEN_AWT].at.u16);
 	judge(test, &open_read, answer, faults, seen);
 	return faults == 0;
 }
@@ -85,10 +85,9 @@ static void open_write_case(struct test *test, const uint64_t v[OPEN_FIELDS], si
 	lend(len, 0);
 	copy_for_plain();
 	plain_faults faults = plain_open_write(v, frame_of(&lent_plain), len);
-	uint8_t answer = sas_open_write((uint8_t)v[OPEN_INITIATOR], (uint8_t)v[OPEN_PROTOCOL],
-	                                (uint8_t)v[OPEN_FEATURES], (uint8_t)v[OPEN_RATE], (uint16_t)v[OPEN_TAG],
-	                                v[OPEN_DESTINATION], v[OPEN_SOURCE], (uint8_t)v[OPEN_PBC],
-	                                (uint16_t)v[OPEN_AWT], frame_of(&lent_ours), len);
+	uint8_t answer = sonerwal_open_write((uint8_t)v[OPEN_INITIATOR], (uint8_t)v[OPEN_PROTOCOL], (uint8_t)v[OPEN_FEATURES],
+	                                     (uint8_t)v[OPEN_RATE], (uint16_t)v[OPEN_TAG], v[OPEN_DESTINATION], v[OPEN_SOURCE],
+	                                     (uint8_t)v[OPEN_PBC], (uint16_t)v[OPEN_AWT], frame_of(&lent_ours), len);
 	judge(test, &open_write, answer, faults, v);
 }
 
@@ -98,7 +97,7 @@ static void open_write_case(struct test *test, const uint64_t v[OPEN_FIELDS], si
 static void lend_valid_open(void)
 {
 	uint64_t values[OPEN_FIELDS];
-	lend(SAS_OPEN_SIZE, 0);
+	lend(SONERWAL_OPEN_SIZE, 0);
 	uint8_t *frame = frame_of(&lent_ours);
 	draw_all(open_fields, OPEN_FIELDS, values);
 	plain_open_write(values, frame, 28);
@@ -118,7 +117,7 @@ static void open_read_valid(struct test *test)
 {
 	for (long i = 0; i < OPENS / 2; i++) {
 		lend_valid_open();
-		if (!open_read_case(test, SAS_OPEN_SIZE)) {
+		if (!open_read_case(test, SONERWAL_OPEN_SIZE)) {
 			test->failed++;
 		}
 	}
@@ -130,27 +129,27 @@ static size_t spoil_length(uint8_t *frame)
 {
 	(void)frame;
 	size_t len = (size_t)noise_below(OPEN_LENGTHS);
-	return len < SAS_OPEN_SIZE ? len : len + 1;
+	return len < SONERWAL_OPEN_SIZE ? len : len + 1;
 }
 
 static size_t spoil_type(uint8_t *frame)
 {
 	uint64_t type = noise_below(15);
 	frame[0] = (uint8_t)((frame[0] & 0xF0) | (type < 1 ? type : type + 1));
-	return SAS_OPEN_SIZE;
+	return SONERWAL_OPEN_SIZE;
 }
 
 static size_t spoil_protocol(uint8_t *frame)
 {
 	frame[0] = (uint8_t)((frame[0] & 0x8F) | (3 + noise_below(5)) << 4);
-	return SAS_OPEN_SIZE;
+	return SONERWAL_OPEN_SIZE;
 }
 
 static size_t spoil_rate(uint8_t *frame)
 {
 	uint64_t rate = noise_below(13);
 	frame[1] = (uint8_t)((frame[1] & 0xF0) | (rate < 8 ? rate : rate + 3));
-	return SAS_OPEN_SIZE;
+	return SONERWAL_OPEN_SIZE;
 }
 
 /*
@@ -173,7 +172,7 @@ static void open_read_one_off(struct test *test)
 static void open_read_noise(struct test *test)
 {
 	for (long i = 0; i < OPENS / 4; i++) {
-		size_t len = noise_below(2) ? SAS_OPEN_SIZE : (size_t)noise_below(OPEN_LENGTHS + 1);
+		size_t len = noise_below(2) ? SONERWAL_OPEN_SIZE : (size_t)noise_below(OPEN_LENGTHS + 1);
 		lend(len, 0);
 		open_read_case(test, len);
 	}
@@ -195,7 +194,7 @@ static void open_write_sweep(struct test *test)
 			for (int repeat = 0; repeat < 16; repeat++) {
 				draw_all(open_fields, OPEN_FIELDS, values);
 				values[field] = value;
-				open_write_case(test, values, SAS_OPEN_SIZE);
+				open_write_case(test, values, SONERWAL_OPEN_SIZE);
 			}
 		}
 	}
@@ -230,7 +229,7 @@ static void open_write_mixed(struct test *test)
 {
 	uint64_t values[OPEN_FIELDS];
 	for (long i = 0; i < OPENS / 4; i++) {
-		size_t len = noise_below(8) ? SAS_OPEN_SIZE : (size_t)noise_below(OPEN_LENGTHS + 1);
+		size_t len = noise_below(8) ? SONERWAL_OPEN_SIZE : (size_t)noise_below(OPEN_LENGTHS + 1);
 		draw_all(open_fields, OPEN_FIELDS, values);
 		for (size_t field = 0; field < OPEN_FIELDS; field++) {
 			if (has_outside(&open_fields[field]) && noise_below(8) == 0) {
@@ -238,6 +237,42 @@ static void open_write_mixed(struct test *test)
 			}
 		}
 		open_write_case(test, values, len);
+	}
+}
+
+/* ---- Waits and priorities */
+
+static void expect(struct test *test, uint64_t found, uint64_t expected)
+{
+	test->cases++;
+	test->failed += found != expected;
+}
+
+/* 01 OPEN.7 01 EXAMPLE.1 */
+static void wait_values(struct test *test)
+{
+	static const uint64_t waits[][2] = {{32767, 32767},    {32768, 32768},    {33767, 32768},     {33768, 32769},
+	                                    {32799767, 65534}, {32799768, 65535}, {UINT64_MAX, 65535}};
+	for (size_t i = 0; i < sizeof waits / sizeof *waits; i++) {
+		expect(test, sonerwal_wait_value(waits[i][0]), waits[i][1]);
+	}
+	for (uint64_t k = 0; k < 32768; k++) {
+		expect(test, sonerwal_wait_value(k), k);
+		expect(test, sonerwal_wait_value(32768 + 1000 * k), 32768 + k);
+		expect(test, sonerwal_wait_value(32768 + 1000 * k + 999), 32768 + k);
+		expect(test, sonerwal_wait_value(32768 + 1000 * 32767 + noise() / 2), 65535);
+	}
+}
+
+/* 01 OPEN.9 01 EXAMPLE.2 01 EXAMPLE.3 */
+static void priorities(struct test *test)
+{
+	expect(test, sonerwal_open_higher(2, 1, 1, 2), 1);
+	expect(test, sonerwal_open_higher(2, 2, 2, 2), 0);
+	for (long i = 0; i < OPENS / 4; i++) {
+		uint16_t awt = (uint16_t)noise(), other = noise_below(2) ? awt : (uint16_t)noise();
+		uint64_t source = noise(), peer = noise_below(4) ? noise() : source;
+		expect(test, sonerwal_open_higher(awt, source, other, peer), awt > other || (awt == other && source > peer));
 	}
 }
 
@@ -251,6 +286,8 @@ static struct test tests[] = {
 	{.name = "OPEN write, every value", .run = open_write_sweep},
 	{.name = "OPEN write, every length", .run = open_write_lengths},
 	{.name = "OPEN write, mixed", .run = open_write_mixed},
+	{.name = "wait value", .run = wait_values},
+	{.name = "priority", .run = priorities},
 };
 
 int main(int argc, char **argv)

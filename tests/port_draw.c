@@ -65,11 +65,11 @@ static uint64_t later(uint64_t last, uint64_t by)
 }
 
 /* When some loss timer is at the loss time, or a microsecond before or after. */
-static uint64_t loss_time(const struct port *port, const struct request *list)
+static uint64_t loss_time(const struct sonerwal_port *port, const struct sonerwal_request *list)
 {
 	unsigned from = (unsigned)noise_below(SLOTS);
 	for (unsigned i = 0; i < SLOTS; i++) {
-		const struct request *r = &list[(from + i) % SLOTS];
+		const struct sonerwal_request *r = &list[(from + i) % SLOTS];
 		uint64_t at = later(r->loss.at, port->loss * UINT64_C(1000));
 		if (r->stage != 0 && r->loss.set && at > port->last) {
 			return at - 1 + noise_below(3);
@@ -79,12 +79,12 @@ static uint64_t loss_time(const struct port *port, const struct request *list)
 }
 
 /* When a request that waits has a wait at an edge of the wait value, or a microsecond before or after. */
-static uint64_t wait_time(const struct port *port, const struct request *list)
+static uint64_t wait_time(const struct sonerwal_port *port, const struct sonerwal_request *list)
 {
 	static const uint64_t edges[] = {32768, 33768, 65768, 32799768};
 	unsigned from = (unsigned)noise_below(SLOTS);
 	for (unsigned i = 0; i < SLOTS; i++) {
-		const struct request *r = &list[(from + i) % SLOTS];
+		const struct sonerwal_request *r = &list[(from + i) % SLOTS];
 		uint64_t at = later(r->first.at, edges[noise_below(COUNT(edges))]);
 		if (r->stage == 1 && r->first.set && at > port->last) {
 			return at - 1 + noise_below(3);
@@ -93,7 +93,7 @@ static uint64_t wait_time(const struct port *port, const struct request *list)
 	return later(port->last, 15);
 }
 
-uint64_t any_time(const struct port *port, const struct request *list)
+uint64_t any_time(const struct sonerwal_port *port, const struct sonerwal_request *list)
 {
 	static const unsigned weights[] = {26, 26, 8, 16, 8, 4, 3, 1, 1, 2, 1};
 	switch (pick(weights, COUNT(weights))) {
@@ -139,11 +139,11 @@ static struct key any_key(const struct mood *mood)
 	};
 }
 
-static struct key present_key(const struct mood *mood, const struct request *list)
+static struct key present_key(const struct mood *mood, const struct sonerwal_request *list)
 {
 	unsigned from = (unsigned)noise_below(SLOTS);
 	for (unsigned i = 0; i < SLOTS; i++) {
-		const struct request *r = &list[(from + i) % SLOTS];
+		const struct sonerwal_request *r = &list[(from + i) % SLOTS];
 		if (r->stage != 0) {
 			return (struct key){r->head.destination, r->head.protocol, r->head.tag};
 		}
@@ -151,13 +151,13 @@ static struct key present_key(const struct mood *mood, const struct request *lis
 	return any_key(mood);
 }
 
-static struct head any_head(const struct mood *mood, const struct request *list)
+static struct sonerwal_head any_head(const struct mood *mood, const struct sonerwal_request *list)
 {
 	struct key key = any_key(mood);
 	for (int tries = 0; tries < 4 && record_of(list, key) != NULL; tries++) {
 		key = any_key(mood);
 	}
-	struct head head = {
+	struct sonerwal_head head = {
 		.initiator = (uint8_t)noise_below(2),
 		.protocol = key.protocol,
 		.features = (uint16_t)noise_below(16),
@@ -169,9 +169,9 @@ static struct head any_head(const struct mood *mood, const struct request *list)
 	switch (noise_below(200)) {
 	case 0: head.initiator = (uint8_t)(2 + noise_below(254)); break;
 	case 1: head.protocol = (uint8_t)(3 + noise_below(253)); break;
-	case 2: head.features = (uint16_t)(16 + noise_below(65520)); break;
+	case 2: head.features = (uint16_t)(16 + noise_below(240)); break;
 	case 3: head.rate = (uint16_t)noise_below(8); break;
-	case 4: head.rate = (uint16_t)(11 + noise_below(65525)); break;
+	case 4: head.rate = (uint16_t)(11 + noise_below(245)); break;
 	default: break;
 	}
 	return head;
@@ -188,7 +188,7 @@ static bool suits(enum call call, unsigned stage)
 }
 
 /* A phy that suits the call if there is one; now and then any. */
-static uint8_t any_phy(const struct port *port, enum call call)
+static uint8_t any_phy(const struct sonerwal_port *port, enum call call)
 {
 	unsigned from = (unsigned)noise_below(PHYS);
 	if (noise_below(16) == 0) {
@@ -203,7 +203,7 @@ static uint8_t any_phy(const struct port *port, enum call call)
 	return (uint8_t)noise_below(PHYS);
 }
 
-static bool has_phy_for(const struct port *port, enum call call)
+static bool has_phy_for(const struct sonerwal_port *port, enum call call)
 {
 	for (unsigned k = 0; k < port->count && k < PHYS; k++) {
 		if (port->phys[k].stage < STAGES && suits(call, port->phys[k].stage)) {
@@ -219,7 +219,7 @@ static size_t any_length(void)
 	return noise_below(300) ? SLOTS : lengths[noise_below(COUNT(lengths))];
 }
 
-struct order any_order(const struct mood *mood, const struct port *port, const struct request *list)
+struct order any_order(const struct mood *mood, const struct sonerwal_port *port, const struct sonerwal_request *list)
 {
 	struct order o = {.call = (enum call)pick(mood->weights, CALLS), .length = any_length()};
 	for (int tries = 0; tries < 8 && o.call >= OPENED && !has_phy_for(port, o.call); tries++) {

@@ -22,9 +22,9 @@ struct order any_setup(const struct mood *mood);
 struct order spoilt_setup(const struct order *good);
 
 /* A time from which to call: mostly the last one or a little later, now and then at an edge of a wait or of a loss time, or before. */
-uint64_t any_time(const struct port *port, const struct request *list);
+uint64_t any_time(const struct sonerwal_port *port, const struct sonerwal_request *list);
 
 /* Any of the calls but setup. */
-struct order any_order(const struct mood *mood, const struct port *port, const struct request *list);
+struct order any_order(const struct mood *mood, const struct sonerwal_port *port, const struct sonerwal_request *list);
 
 #endif

@@ -10,11 +10,15 @@ struct field {
 	size_t at, width;
 };
 
-#define FIELD(type, member) {#member, offsetof(struct type, member), sizeof(((struct type *)0)->member)}
+#define FIELD(type, member) {#member, offsetof(struct sonerwal_##type, member), sizeof(((struct sonerwal_##type *)0)->member)}
 
-static const struct field port_fields[] = {FIELD(port, count), FIELD(port, loss), FIELD(port, last)};
+static const struct field port_fields[] = {
+	FIELD(port, last), FIELD(port, zero4), FIELD(port, loss), FIELD(port, count), FIELD(port, zero1),
+};
 
-static const struct field phy_fields[] = {FIELD(phy, stage), FIELD(phy, slot), FIELD(phy, protocol), FIELD(phy, destination)};
+static const struct field phy_fields[] = {
+	FIELD(phy, destination), FIELD(phy, zero4), FIELD(phy, stage), FIELD(phy, slot), FIELD(phy, protocol), FIELD(phy, zero1),
+};
 
 static const struct field request_fields[] = {
 	FIELD(request, stage),
@@ -40,21 +44,25 @@ static const struct field request_fields[] = {
 };
 
 static const struct field frame_fields[] = {
-	FIELD(open_frame, head.initiator),
-	FIELD(open_frame, head.protocol),
-	FIELD(open_frame, head.features),
-	FIELD(open_frame, head.rate),
-	FIELD(open_frame, head.tag),
-	FIELD(open_frame, head.destination),
-	FIELD(open_frame, head.source),
-	FIELD(open_frame, pbc),
-	FIELD(open_frame, awt),
+	FIELD(open, destination),
+	FIELD(open, source),
+	FIELD(open, zero4),
+	FIELD(open, tag),
+	FIELD(open, awt),
+	FIELD(open, zero2),
+	FIELD(open, initiator),
+	FIELD(open, protocol),
+	FIELD(open, features),
+	FIELD(open, rate),
+	FIELD(open, pbc),
+	FIELD(open, zero1),
 };
 
 static uint64_t get(const void *from, const struct field *field)
 {
 	const unsigned char *at = (const unsigned char *)from + field->at;
 	uint16_t two;
+	uint32_t four;
 	uint64_t eight;
 	switch (field->width) {
 	case 1:
@@ -62,6 +70,9 @@ static uint64_t get(const void *from, const struct field *field)
 	case 2:
 		memcpy(&two, at, sizeof two);
 		return two;
+	case 4:
+		memcpy(&four, at, sizeof four);
+		return four;
 	default:
 		memcpy(&eight, at, sizeof eight);
 		return eight;
@@ -73,21 +84,22 @@ static void put(void *to, const struct field *field, uint64_t value)
 	unsigned char *at = (unsigned char *)to + field->at;
 	uint8_t one = (uint8_t)value;
 	uint16_t two = (uint16_t)value;
-	memcpy(at, field->width == 1 ? (void *)&one : field->width == 2 ? (void *)&two : (void *)&value, field->width);
+	uint32_t four = (uint32_t)value;
+	memcpy(at, field->width == 1 ? (void *)&one : field->width == 2 ? (void *)&two : field->width == 4 ? (void *)&four : (void *)&value, field->width);
 }
 
 static bool means_nothing(const void *thing, const struct field *fields, const struct field *field)
 {
 	if (fields == phy_fields) {
-		const struct phy *phy = thing;
-		return phy->stage < 3 && (field->at == offsetof(struct phy, protocol) || field->at == offsetof(struct phy, destination));
+		const struct sonerwal_phy *phy = thing;
+		return phy->stage < 3 && (field->at == offsetof(struct sonerwal_phy, protocol) || field->at == offsetof(struct sonerwal_phy, destination));
 	}
 	if (fields == request_fields) {
-		const struct request *r = thing;
-		return r->stage != 0 && ((field->at == offsetof(struct request, phy) && r->stage != 2) ||
-		                         (field->at == offsetof(struct request, retry.at) && !r->retry.set) ||
-		                         (field->at == offsetof(struct request, first.at) && !r->first.set) ||
-		                         (field->at == offsetof(struct request, loss.at) && !r->loss.set));
+		const struct sonerwal_request *r = thing;
+		return r->stage != 0 && ((field->at == offsetof(struct sonerwal_request, phy) && r->stage != 2) ||
+		                         (field->at == offsetof(struct sonerwal_request, retry.at) && !r->retry.set) ||
+		                         (field->at == offsetof(struct sonerwal_request, first.at) && !r->first.set) ||
+		                         (field->at == offsetof(struct sonerwal_request, loss.at) && !r->loss.set));
 	}
 	return false;
 }
@@ -116,16 +128,18 @@ static void compare(struct difference *d, const char *what, const void *expected
 	}
 }
 
-void compare_answer(struct difference *d, const struct said *expected, const struct reply *found)
+void compare_answer(struct difference *d, const struct said *expected, const struct sonerwal_port_step *found)
 {
-	differ(d, "word", expected->word, found->word);
-	differ(d, "detail", expected->detail, found->detail);
+	bool refused = expected->word == REFUSED;
+	unsigned happened = expected->word == TAKEN ? SONERWAL_OK : SONERWAL_SUBMITTED + (expected->word - SUBMITTED);
+	differ(d, "answer", refused ? expected->detail : happened, found->answer);
+	differ(d, "detail", refused ? 0 : expected->detail, found->detail);
 	differ(d, "slot", expected->slot, found->slot);
 	differ(d, "phy", expected->phy, found->phy);
 	compare(d, "frame", &expected->frame, &found->frame, frame_fields, COUNT(frame_fields), false);
 }
 
-void compare_port(struct difference *d, const struct port *expected, const struct port *found, bool odd)
+void compare_port(struct difference *d, const struct sonerwal_port *expected, const struct sonerwal_port *found, bool odd)
 {
 	char what[16];
 	compare(d, "port", expected, found, port_fields, COUNT(port_fields), odd);
@@ -135,7 +149,7 @@ void compare_port(struct difference *d, const struct port *expected, const struc
 	}
 }
 
-void compare_list(struct difference *d, const struct request *expected, const struct request *found, size_t length, bool odd)
+void compare_list(struct difference *d, const struct sonerwal_request *expected, const struct sonerwal_request *found, size_t length, bool odd)
 {
 	char what[32];
 	for (size_t i = 0; i < length; i++) {
@@ -172,23 +186,23 @@ static void change_field(void *thing, const void *brother, const struct field *f
 	put(thing, field, another(get(thing, field), brother, field));
 }
 
-static void change_port(struct port *port)
+static void change_port(struct sonerwal_port *port)
 {
 	change_field(port, port, port_fields, COUNT(port_fields));
 }
 
-static void change_phy(struct phy *phy, const struct phy *brother)
+static void change_phy(struct sonerwal_phy *phy, const struct sonerwal_phy *brother)
 {
 	change_field(phy, brother, phy_fields, COUNT(phy_fields));
 }
 
-static void change_request(struct request *request, const struct request *brother)
+static void change_request(struct sonerwal_request *request, const struct sonerwal_request *brother)
 {
 	change_field(request, brother, request_fields, COUNT(request_fields));
 }
 
 /* A record that is present, mostly. */
-static struct request *some_record(struct request *list)
+static struct sonerwal_request *some_record(struct sonerwal_request *list)
 {
 	unsigned from = (unsigned)noise_below(SLOTS);
 	for (unsigned i = 0; i < SLOTS && noise_below(50); i++) {
@@ -200,12 +214,12 @@ static struct request *some_record(struct request *list)
 }
 
 /* A phy that names a request goes on to another stage in which it may. */
-static void change_stage(struct port *port)
+static void change_stage(struct sonerwal_port *port)
 {
 	static const uint8_t stages[] = {2, 4, 5, 6};
 	unsigned from = (unsigned)noise_below(PHYS);
 	for (unsigned i = 0; i < PHYS; i++) {
-		struct phy *phy = &port->phys[(from + i) % PHYS];
+		struct sonerwal_phy *phy = &port->phys[(from + i) % PHYS];
 		if (phy->slot < SLOTS) {
 			phy->stage = stages[noise_below(COUNT(stages))];
 			return;
@@ -213,7 +227,7 @@ static void change_stage(struct port *port)
 	}
 }
 
-void change_state(struct port *port, struct request *list)
+void change_state(struct sonerwal_port *port, struct sonerwal_request *list)
 {
 	switch (noise_below(9)) {
 	case 0:

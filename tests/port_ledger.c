@@ -73,16 +73,16 @@ static bool enter(struct key key, uint8_t slot)
 	return true;
 }
 
-bool ledger_hear(enum call call, const struct reply *reply)
+bool ledger_hear(enum call call, const struct sonerwal_port_step *reply)
 {
-	const struct head *h = &reply->frame.head;
-	struct key key = {h->destination, h->protocol, h->tag};
+	enum word word = word_of(reply->answer);
+	struct key key = {reply->frame.destination, reply->frame.protocol, reply->frame.tag};
 	unsigned i = entry_of(key);
 	int phy = reply->phy == NO_PHY ? ON_NO_PHY : reply->phy;
-	if (reply->word == REFUSED || reply->slot == NO_SLOT) {
+	if (word == REFUSED || reply->slot == NO_SLOT) {
 		return true;
 	}
-	if (reply->word == SUBMITTED) {
+	if (word == SUBMITTED) {
 		return enter(key, reply->slot);
 	}
 	if (i == live || ledger[i].slot != reply->slot || (phy != ON_NO_PHY && is_phy_taken(phy, i))) {
@@ -90,15 +90,15 @@ bool ledger_hear(enum call call, const struct reply *reply)
 	}
 	if (call == CHOOSE) {
 		bool waited = ledger[i].phy == ON_NO_PHY;
-		ledger[i].phy = reply->word == CLOSE ? ON_NO_PHY : phy;
+		ledger[i].phy = word == CLOSE ? ON_NO_PHY : phy;
 		return waited;
 	}
 	if (ledger[i].phy != phy) {
 		return false;
 	}
-	if (reply->word == RETRIED || reply->word == WAITING) {
+	if (word == RETRIED || word == WAITING) {
 		ledger[i].phy = ON_NO_PHY;
-	} else if (reply->word >= CANCEL_ACKNOWLEDGED) {
+	} else if (word >= CANCEL_ACKNOWLEDGED) {
 		ledger[i] = ledger[--live];
 		ended++;
 	}

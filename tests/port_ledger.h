@@ -11,7 +11,7 @@
 void ledger_begin(void);
 
 /* Whether an answer fits what was said before. */
-bool ledger_hear(enum call call, const struct reply *reply);
+bool ledger_hear(enum call call, const struct sonerwal_port_step *reply);
 
 /* How many requests have had no last word. */
 unsigned ledger_live(void);

@@ -65,6 +65,7 @@ static const char *const rule_names[RULES] = {
 	[RULE_STAMPS] = "no time stamp past the last time",
 	[RULE_TIMERS] = "one loss timer at most, with an SSP request",
 	[RULE_NUMBERS] = "stages, flags and slots in range",
+	[RULE_ZEROS] = "zero members are 0",
 };
 
 static const char *const note_names[NOTES] = {
@@ -104,10 +105,10 @@ static struct {
 
 /* ---- Counts */
 
-const struct request *record_of(const struct request *list, struct key key)
+const struct sonerwal_request *record_of(const struct sonerwal_request *list, struct key key)
 {
 	for (unsigned i = 0; i < SLOTS; i++) {
-		const struct head *h = &list[i].head;
+		const struct sonerwal_head *h = &list[i].head;
 		if (list[i].stage != 0 && h->destination == key.destination && h->protocol == key.protocol && h->tag == key.tag) {
 			return &list[i];
 		}
@@ -115,9 +116,9 @@ const struct request *record_of(const struct request *list, struct key key)
 	return NULL;
 }
 
-static void met_place(const struct port *port, const struct request *list, bool odd, const struct order *o, const struct said *said)
+static void met_place(const struct sonerwal_port *port, const struct sonerwal_request *list, bool odd, const struct order *o, const struct said *said)
 {
-	const struct request *r = o->call == CANCEL ? record_of(list, o->key) : NULL;
+	const struct sonerwal_request *r = o->call == CANCEL ? record_of(list, o->key) : NULL;
 	if (said->word == REFUSED && said->detail != 6) {
 		return;
 	}
@@ -139,7 +140,7 @@ static void met_place(const struct port *port, const struct request *list, bool 
 	}
 }
 
-void met_call(const struct port *port, const struct request *list, bool odd, const struct order *o, const struct said *said)
+void met_call(const struct sonerwal_port *port, const struct sonerwal_request *list, bool odd, const struct order *o, const struct said *said)
 {
 	met.words[o->call][said->word]++;
 	if (said->word == REFUSED) {

@@ -7,10 +7,10 @@
 extern const char *const call_names[CALLS], *const word_names[WORDS];
 
 /* The record of a key; NULL if it is absent. */
-const struct request *record_of(const struct request *list, struct key key);
+const struct sonerwal_request *record_of(const struct sonerwal_request *list, struct key key);
 
 /* A call on a state; an odd one came from a lent state that no call leaves. */
-void met_call(const struct port *port, const struct request *list, bool odd, const struct order *order, const struct said *said);
+void met_call(const struct sonerwal_port *port, const struct sonerwal_request *list, bool odd, const struct order *order, const struct said *said);
 
 /* A lent state that breaks these rules. */
 void met_rules(unsigned broken);

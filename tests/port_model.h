@@ -18,14 +18,14 @@ struct order {
 	size_t length; /* of the list */
 	uint64_t now;
 	uint8_t phy, why, status;
-	struct head head;
+	struct sonerwal_head head;
 	struct key key;
 	uint8_t count;
 	uint16_t loss;
 };
 
 /* Rules of a lent state, each a bit. */
-enum rule { RULE_SETUP, RULE_FIELDS, RULE_KEYS, RULE_NAMES, RULE_WHO, RULE_CANCELLED, RULE_STAMPS, RULE_TIMERS, RULE_NUMBERS, RULES };
+enum rule { RULE_SETUP, RULE_FIELDS, RULE_KEYS, RULE_NAMES, RULE_WHO, RULE_CANCELLED, RULE_STAMPS, RULE_TIMERS, RULE_NUMBERS, RULE_ZEROS, RULES };
 
 /* What happened on the way to an answer, each a bit. */
 enum note {
@@ -55,7 +55,7 @@ enum note {
 
 struct said {
 	uint8_t word, detail, slot, phy;
-	struct open_frame frame;
+	struct sonerwal_open frame;
 	unsigned long notes;
 	unsigned causes; /* of a refusal, each a bit */
 };
@@ -66,10 +66,10 @@ struct model *model_new(void);
 void model_free(struct model *m);
 
 /* Takes a lent state for its own; gives the rules that it breaks. */
-unsigned model_take(struct model *m, const struct port *port, const struct request *list);
+unsigned model_take(struct model *m, const struct sonerwal_port *port, const struct sonerwal_request *list);
 
 /* The port and the list as they stand. */
-void model_show(const struct model *m, struct port *port, struct request *list);
+void model_show(const struct model *m, struct sonerwal_port *port, struct sonerwal_request *list);
 
 struct said model_call(struct model *m, const struct order *order);
 

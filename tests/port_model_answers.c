@@ -16,7 +16,7 @@ struct said model_about(const struct model *m, enum word word, const struct item
 	struct said said = model_nameless(word);
 	if (item) {
 		said.slot = item->slot;
-		said.frame.head = item->head;
+		said.frame = frame_of(item->head);
 	}
 	if (line) {
 		said.phy = model_number_of(m, line);
@@ -44,7 +44,7 @@ static unsigned ssp_requests_to(const struct model *m, uint64_t destination)
 /* 01 PORT.11 01 PORT.26 */
 static void leave(struct model *m, struct item *item)
 {
-	struct head head = item->head;
+	struct sonerwal_head head = item->head;
 	if (item->line) {
 		item->line->item = NULL;
 	}

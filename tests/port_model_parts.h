@@ -19,7 +19,7 @@ struct line;
 struct item {
 	struct item *next; /* by submission time, then slot */
 	uint8_t slot;
-	struct head head;
+	struct sonerwal_head head;
 	uint64_t submitted;
 	bool cancelled;
 	bool closed; /* choose closed a phy for it */
@@ -49,9 +49,9 @@ struct model {
 	struct line lines[PHYS];
 	struct item *items;
 	struct timer *timers;
-	struct request rest[SLOTS]; /* what stands in records that are free */
+	struct sonerwal_request rest[SLOTS]; /* what stands in records that are free */
 	unsigned broken;            /* rules; if any, only `port` and `rest` count */
-	struct port port;
+	struct sonerwal_port port;
 	unsigned long notes;
 };
 
@@ -76,7 +76,7 @@ unsigned model_free_slot(const struct model *m);
 
 /* ---- port_model_timers.c */
 
-bool model_is_ssp(const struct head *head);
+bool model_is_ssp(const struct sonerwal_head *head);
 
 /* Where the destination's timer hangs; NULL hangs there if it doesn't run. */
 struct timer **model_timer_of(struct model *m, uint64_t destination);
@@ -91,13 +91,13 @@ bool model_is_lost(struct model *m, const struct item *item, uint64_t now);
 
 /* ---- port_model_rules.c */
 
-bool model_head_listed(const struct head *head);
+bool model_head_listed(const struct sonerwal_head *head);
 
 /* Whether a setup can have these numbers. */
 bool model_in_range(unsigned count, unsigned loss);
 
 /* The rules that a lent state breaks, each a bit. */
-unsigned model_breaks(const struct port *port, const struct request *list);
+unsigned model_breaks(const struct sonerwal_port *port, const struct sonerwal_request *list);
 
 /* ---- port_model_refusals.c */
 

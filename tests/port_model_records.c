@@ -3,17 +3,17 @@
 
 #include <string.h>
 
-static struct when when(struct stamp stamp)
+static struct when when(struct sonerwal_stamp stamp)
 {
 	return (struct when){stamp.set == 1, stamp.set == 1 ? stamp.at : 0};
 }
 
-static struct stamp stamp(struct when when)
+static struct sonerwal_stamp stamp(struct when when)
 {
-	return (struct stamp){when.came, when.at};
+	return (struct sonerwal_stamp){when.came, when.at};
 }
 
-static void take_request(struct model *m, const struct request *r, uint8_t slot)
+static void take_request(struct model *m, const struct sonerwal_request *r, uint8_t slot)
 {
 	struct item item = {
 		.slot = slot,
@@ -36,7 +36,7 @@ static void take_request(struct model *m, const struct request *r, uint8_t slot)
 	}
 }
 
-static void take_phy(struct line *line, const struct phy *phy)
+static void take_phy(struct line *line, const struct sonerwal_phy *phy)
 {
 	line->enabled = phy->stage != 0;
 	line->opening = phy->stage == 2;
@@ -47,7 +47,7 @@ static void take_phy(struct line *line, const struct phy *phy)
 	line->destination = phy->destination;
 }
 
-unsigned model_take(struct model *m, const struct port *port, const struct request *list)
+unsigned model_take(struct model *m, const struct sonerwal_port *port, const struct sonerwal_request *list)
 {
 	model_empty(m);
 	m->broken = model_breaks(port, list);
@@ -68,10 +68,10 @@ unsigned model_take(struct model *m, const struct port *port, const struct reque
 	return m->broken;
 }
 
-static struct request show_request(const struct model *m, const struct item *item)
+static struct sonerwal_request show_request(const struct model *m, const struct item *item)
 {
 	struct timer *timer = model_is_ssp(&item->head) ? *model_timer_of((struct model *)m, item->head.destination) : NULL;
-	struct request r = {
+	struct sonerwal_request r = {
 		.stage = item->line ? 2 : 1,
 		.phy = item->line ? model_number_of(m, item->line) : 0,
 		.cancelled = item->cancelled,
@@ -84,14 +84,14 @@ static struct request show_request(const struct model *m, const struct item *ite
 		.first = stamp(item->first),
 	};
 	if (timer) {
-		r.loss = (struct stamp){1, timer->since};
+		r.loss = (struct sonerwal_stamp){1, timer->since};
 	}
 	return r;
 }
 
-static struct phy show_phy(const struct line *line)
+static struct sonerwal_phy show_phy(const struct line *line)
 {
-	struct phy phy = {
+	struct sonerwal_phy phy = {
 		.stage = 1,
 		.slot = line->item ? line->item->slot : NO_SLOT,
 		.protocol = line->protocol,
@@ -107,7 +107,7 @@ static struct phy show_phy(const struct line *line)
 	return phy;
 }
 
-void model_show(const struct model *m, struct port *port, struct request *list)
+void model_show(const struct model *m, struct sonerwal_port *port, struct sonerwal_request *list)
 {
 	*port = m->port;
 	memcpy(list, m->rest, sizeof m->rest);

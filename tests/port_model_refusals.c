@@ -46,7 +46,7 @@ static bool fits(const struct model *m, const struct order *o)
 	}
 }
 
-static struct key key_of(const struct head *head)
+static struct key key_of(const struct sonerwal_head *head)
 {
 	return (struct key){head->destination, head->protocol, head->tag};
 }

@@ -2,7 +2,7 @@
 #include "port_model_parts.h"
 
 /* 01 PORT.4 01 OPEN.2 01 OPEN.3 */
-bool model_head_listed(const struct head *head)
+bool model_head_listed(const struct sonerwal_head *head)
 {
 	return head->initiator <= 1 && head->protocol <= 2 && head->features <= 15 && head->rate >= 8 && head->rate <= 10;
 }
@@ -14,14 +14,17 @@ bool model_in_range(unsigned count, unsigned loss)
 }
 
 /* 01 PORT.6 01 PORT.7 */
-static unsigned phy_breaks(const struct port *port, const struct request *list, unsigned k)
+static unsigned phy_breaks(const struct sonerwal_port *port, const struct sonerwal_request *list, unsigned k)
 {
-	const struct phy *phy = &port->phys[k];
+	const struct sonerwal_phy *phy = &port->phys[k];
 	bool names = phy->slot < NO_SLOT;
 	bool opening = phy->stage == 2, out = phy->stage == 4 || phy->stage == 6, closing = phy->stage == 5;
 	unsigned broken = 0;
 	if (phy->stage > 6 || phy->slot > NO_SLOT || (k >= port->count && phy->stage != 0)) {
 		broken |= 1u << RULE_NUMBERS;
+	}
+	if (phy->zero4 != 0 || phy->zero1 != 0) {
+		broken |= 1u << RULE_ZEROS;
 	}
 	if (phy->protocol > 2) {
 		broken |= 1u << RULE_FIELDS;
@@ -36,15 +39,15 @@ static unsigned phy_breaks(const struct port *port, const struct request *list, 
 }
 
 /* 01 PORT.9 */
-static bool past(const struct request *r, uint64_t last)
+static bool past(const struct sonerwal_request *r, uint64_t last)
 {
 	return r->submitted > last || r->retry.at > last || r->first.at > last || r->loss.at > last;
 }
 
 /* 01 PORT.8 01 PORT.10 */
-static unsigned record_breaks(const struct port *port, const struct request *list, unsigned i)
+static unsigned record_breaks(const struct sonerwal_port *port, const struct sonerwal_request *list, unsigned i)
 {
-	const struct request *r = &list[i];
+	const struct sonerwal_request *r = &list[i];
 	unsigned broken = 0;
 	if (r->stage == 0) {
 		return 0;
@@ -71,7 +74,7 @@ static unsigned record_breaks(const struct port *port, const struct request *lis
 }
 
 /* 01 PORT.5 01 PORT.10 */
-static unsigned pair_breaks(const struct request *a, const struct request *b)
+static unsigned pair_breaks(const struct sonerwal_request *a, const struct sonerwal_request *b)
 {
 	unsigned broken = 0;
 	if (a->stage == 0 || b->stage == 0 || a->head.destination != b->head.destination || a->head.protocol != b->head.protocol) {
@@ -86,9 +89,12 @@ static unsigned pair_breaks(const struct request *a, const struct request *b)
 	return broken;
 }
 
-unsigned model_breaks(const struct port *port, const struct request *list)
+unsigned model_breaks(const struct sonerwal_port *port, const struct sonerwal_request *list)
 {
 	unsigned broken = model_in_range(port->count, port->loss) ? 0 : 1u << RULE_SETUP;
+	if (port->zero4 != 0 || port->zero1 != 0) {
+		broken |= 1u << RULE_ZEROS;
+	}
 	for (unsigned k = 0; k < PHYS; k++) {
 		broken |= phy_breaks(port, list, k);
 	}

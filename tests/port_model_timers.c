@@ -3,7 +3,7 @@
 
 #include <stdlib.h>
 
-bool model_is_ssp(const struct head *head)
+bool model_is_ssp(const struct sonerwal_head *head)
 {
 	return head->protocol == 1;
 }

@@ -3,8 +3,6 @@
  * calls over many setups. After each one the answer, the port and the 32 records are compared field by field. A ledger that sees
  * only calls and answers holds them to two sentences of its own: a submitted request gets one last word, and a phy has one
  * request at a time.
- *
- * Calls the crate bench_ports.
  */
 #include "check.h"
 #include "port_draw.h"
@@ -25,42 +23,53 @@ static unsigned long calls, lent, kept, wrong;
 /* ---- One call of both */
 
 struct world {
-	struct port port;
-	struct request list[SLOTS + 1]; /* one more, to lend 33 */
+	struct sonerwal_port port;
+	struct sonerwal_request list[SLOTS + 1]; /* one more, to lend 33 */
 	struct model *model;
 	bool odd; /* it came from a lent state that no call leaves */
 };
 
-static struct reply call_port(struct world *w, const struct order *o)
+/* Of a frame that is given to submit, only the head is looked at. */
+static struct sonerwal_open any_frame(struct sonerwal_head head)
 {
-	struct confirmed confirmed = {o->phy, o->now};
+	struct sonerwal_open frame = frame_of(head);
+	frame.pbc = (uint8_t)noise();
+	frame.awt = (uint16_t)noise();
+	frame.zero4 = (uint32_t)noise();
+	frame.zero2 = (uint16_t)noise();
+	frame.zero1 = (uint8_t)noise();
+	return frame;
+}
+
+static struct sonerwal_port_step call_port(struct world *w, const struct order *o)
+{
 	switch (o->call) {
 	case SETUP:
-		return port_setup(w->list, o->length, o->count, o->loss);
+		return sonerwal_port_setup(w->list, o->length, o->count, o->loss);
 	case SUBMIT:
-		return port_submit(w->list, o->length, w->port, (struct wish){o->head, o->now});
+		return sonerwal_port_submit(w->list, o->length, w->port, any_frame(o->head), o->now);
 	case CANCEL:
-		return port_cancel(w->list, o->length, w->port, (struct withdrawn){o->key, o->now});
+		return sonerwal_port_cancel(w->list, o->length, w->port, o->key.destination, o->key.protocol, o->key.tag, o->now);
 	case CHOOSE:
-		return port_choose(w->list, o->length, w->port, (struct moment){o->now});
+		return sonerwal_port_choose(w->list, o->length, w->port, o->now);
 	case OPENED:
-		return port_opened(w->list, o->length, w->port, confirmed);
+		return sonerwal_port_opened(w->list, o->length, w->port, o->phy, o->now);
 	case OPEN_FAILED:
-		return port_open_failed(w->list, o->length, w->port, (struct failure){o->phy, o->why, o->now});
+		return sonerwal_port_open_failed(w->list, o->length, w->port, o->phy, o->why, o->now);
 	case FRAME_STATUS:
-		return port_frame_status(w->list, o->length, w->port, (struct report){o->phy, o->status, o->now});
+		return sonerwal_port_frame_status(w->list, o->length, w->port, o->phy, o->status, o->now);
 	case CLOSED:
-		return port_closed(w->list, o->length, w->port, confirmed);
+		return sonerwal_port_closed(w->list, o->length, w->port, o->phy, o->now);
 	case ENABLE:
-		return port_enable(w->list, o->length, w->port, confirmed);
+		return sonerwal_port_enable(w->list, o->length, w->port, o->phy, o->now);
 	default:
-		return port_disable(w->list, o->length, w->port, confirmed);
+		return sonerwal_port_disable(w->list, o->length, w->port, o->phy, o->now);
 	}
 }
 
 static void tell(const struct order *o, const struct world *before, const struct difference *d)
 {
-	const struct port *port = &before->port;
+	const struct sonerwal_port *port = &before->port;
 	struct key key = o->call == CANCEL ? o->key : (struct key){o->head.destination, o->head.protocol, o->head.tag};
 	if (wrong++ >= SHOWN) {
 		return;
@@ -83,7 +92,7 @@ static void show_after(const struct world *before, enum call call, enum word wor
 }
 
 /* Gives the call to both and compares everything; false if they differ. */
-static bool play(struct world *w, const struct order *o, struct reply *reply)
+static bool play(struct world *w, const struct order *o, struct sonerwal_port_step *reply)
 {
 	static struct world before, after;
 	struct difference d = {.name = ""};
@@ -128,7 +137,7 @@ static void lend_changed(const struct run *run, struct model *model)
 	met_rules(broken);
 	uint64_t steps = broken ? 1 : 1 + noise_below(5);
 	for (uint64_t i = 0; i < steps; i++) {
-		struct reply reply;
+		struct sonerwal_port_step reply;
 		struct order o = any_order(run->mood, &w.port, w.list);
 		lent++;
 		kept += broken == 0;
@@ -140,13 +149,13 @@ static void lend_changed(const struct run *run, struct model *model)
 
 static bool step(struct run *run, const struct order *o)
 {
-	struct reply reply;
+	struct sonerwal_port_step reply;
 	if (!play(&run->world, o, &reply)) {
 		return false;
 	}
 	if (!ledger_hear(o->call, &reply)) {
 		wrong++;
-		printf("FAILED: call %lu: %s after %s does not fit what was said of its request before\n", calls, word_names[reply.word],
+		printf("FAILED: call %lu: %s after %s does not fit what was said of its request before\n", calls, word_names[word_of(reply.answer)],
 		       call_names[o->call]);
 		return false;
 	}
@@ -196,7 +205,7 @@ static bool drain(struct run *run)
 	struct world *w = &run->world;
 	struct order o = {.length = SLOTS, .now = w->port.last};
 	for (unsigned i = 0; i < SLOTS; i++) {
-		const struct request *r = &w->list[i];
+		const struct sonerwal_request *r = &w->list[i];
 		o.call = CANCEL;
 		o.key = (struct key){r->head.destination, r->head.protocol, r->head.tag};
 		if (r->stage != 0 && !r->cancelled && !step(run, &o)) {

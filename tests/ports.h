@@ -1,10 +1,12 @@
 /*
- * The port's ten calls as C reaches them, for tests and the bench: the crate bench_ports, document 01, 'Port'. The caller lends the list
- * of 32 records to each call, gives the port by value and goes on with the port of the reply. Every struct has C's own layout. A
- * record of the list has no padding: each of its bytes is promised. What lies between two members of the port is not looked at and not promised.
+ * The port's ten calls as C reaches them (document 01, 'Port'), for tests, bench and examples, until include/sonerwal.h declares them. The caller
+ * lends the list of 32 records to each call, gives the port by value and goes on with the port of the step. No struct that is lent has
+ * padding: what is left over of its bytes is a zero member, which is 0 or the port is refused with 3.
  */
 #ifndef SONERWAL_TESTS_PORTS_H
 #define SONERWAL_TESTS_PORTS_H
+
+#include "sonerwal.h"
 
 #include <stddef.h>
 #include <stdint.h>
@@ -14,7 +16,24 @@ enum { SLOTS = 32, PHYS = 8, STAGES = 7, NO_SLOT = 32, NO_PHY = 8, NEVER = 65535
 
 #define COUNT(array) (sizeof(array) / sizeof *(array))
 
-/* What a call answers. */
+/* What a call answers: a refusal is its own number, 1 to 10. */
+enum {
+	SONERWAL_SUBMITTED = 32,
+	SONERWAL_NOTHING = 33,
+	SONERWAL_SEND = 34,
+	SONERWAL_OPEN = 35,
+	SONERWAL_CLOSE = 36,
+	SONERWAL_STOP_ARB = 37,
+	SONERWAL_RETRIED = 38,
+	SONERWAL_WAITING = 39,
+	SONERWAL_CANCEL_ACKNOWLEDGED = 40, /* from here to STATUS, the last word on a request */
+	SONERWAL_ENDED = 41,
+	SONERWAL_NEXUS_LOSS = 42,
+	SONERWAL_CONNECTION_LOST = 43,
+	SONERWAL_STATUS = 44
+};
+
+/* The same as words, one behind the other. */
 enum word {
 	TAKEN,
 	SUBMITTED,
@@ -25,7 +44,7 @@ enum word {
 	STOP_ARB,
 	RETRIED,
 	WAITING,
-	CANCEL_ACKNOWLEDGED, /* from here to STATUS, the last word on a request */
+	CANCEL_ACKNOWLEDGED,
 	ENDED,
 	NEXUS_LOSS,
 	CONNECTION_LOST,
@@ -33,6 +52,14 @@ enum word {
 	REFUSED,
 	WORDS
 };
+
+static inline enum word word_of(uint8_t answer)
+{
+	if (answer == SONERWAL_OK) {
+		return TAKEN;
+	}
+	return answer < SONERWAL_SUBMITTED ? REFUSED : (enum word)(SUBMITTED + (answer - SONERWAL_SUBMITTED));
+}
 
 /* Why an open failed. */
 enum reason {
@@ -49,110 +76,94 @@ enum reason {
 	REASONS
 };
 
+struct sonerwal_phy {
+	/* With whom it is connected, and below its protocol; zeros if it isn't. */
+	uint64_t destination;
+	uint32_t zero4;
+	/* 0 disabled, 1 unconnected, 2 opening, 3 connected, 4 connected with a frame out, 5 closing, 6 closing with a frame out */
+	uint8_t stage;
+	uint8_t slot; /* of the request that it names, 32 if it names none */
+	uint8_t protocol;
+	uint8_t zero1;
+};
+
+struct sonerwal_port {
+	uint64_t last; /* the time of the last call */
+	struct sonerwal_phy phys[8];
+	uint32_t zero4;
+	uint16_t loss; /* loss time in milliseconds, 65,535: never */
+	uint8_t count; /* of its phys */
+	uint8_t zero1;
+};
+
 /* What an OPEN says of its request. */
-struct head {
+struct sonerwal_head {
 	uint8_t initiator, protocol;
 	uint16_t features, rate, tag;
 	uint64_t destination, source;
 };
 
-struct open_frame {
-	struct head head;
-	uint8_t pbc;  /* pathway blocked count */
-	uint16_t awt; /* arbitration wait time */
-};
-
-struct phy {
-	/* 0 disabled, 1 unconnected, 2 opening, 3 connected, 4 connected with a frame out, 5 closing, 6 closing with a frame out */
-	uint8_t stage;
-	uint8_t slot; /* of the request that it names, 32 if it names none */
-	/* With whom it is connected; zeros if it isn't. */
-	uint8_t protocol;
-	uint64_t destination;
-};
-
 /* A time in microseconds that may not have come. */
-struct stamp {
+struct sonerwal_stamp {
 	uint64_t set; /* 1 once it came, else 0 */
 	uint64_t at;
 };
 
-struct request {
+struct sonerwal_request {
 	uint8_t stage;     /* 0 free, 1 waiting, 2 in progress */
 	uint8_t phy;       /* that a request in progress is on, else 0 */
 	uint8_t cancelled; /* 1 once it was, else 0 */
-	uint8_t pbc;
-	uint16_t closed; /* 1 once choose closed a phy for it, else 0 */
-	uint16_t awt;    /* of its last Open since its last reset, 0 if there was none */
-	struct head head;
+	uint8_t pbc;       /* pathway blocked count */
+	uint16_t closed;   /* 1 once choose closed a phy for it, else 0 */
+	uint16_t awt;      /* of its last Open since its last reset, 0 if there was none */
+	struct sonerwal_head head;
 	uint64_t submitted;
-	struct stamp retry; /* its last one */
-	struct stamp first; /* its first open after its last reset */
-	struct stamp loss;  /* the start of its destination's loss timer, in every SSP request to it */
+	struct sonerwal_stamp retry; /* its last one */
+	struct sonerwal_stamp first; /* its first open after its last reset */
+	struct sonerwal_stamp loss;  /* the start of its destination's loss timer, in every SSP request to it */
 };
 
-_Static_assert(sizeof(struct request) == 88, "a record has no padding");
-
-struct port {
-	uint8_t count; /* of its phys */
-	uint16_t loss; /* loss time in milliseconds, 65,535: never */
-	uint64_t last; /* the time of the last call */
-	struct phy phys[8];
+struct sonerwal_port_step {
+	struct sonerwal_port port;  /* as it is after the call; a refusal's as it was lent, of a refused setup zeros */
+	struct sonerwal_open frame; /* the head of the request that is named; pbc and awt are Open's alone; else zeros */
+	uint8_t answer;
+	uint8_t detail;    /* ENDED: the reason; STATUS: the byte; else 0 */
+	uint8_t slot, phy; /* 32 and 8 if none is named */
 };
 
-struct reply {
-	uint8_t word;            /* enum word */
-	uint8_t detail;          /* Ended: the reason's number; Status: the byte; Refused: the refusal's number; else 0 */
-	uint8_t slot, phy;       /* 32 and 8 if none is named */
-	struct open_frame frame; /* the head of the request that is named; pbc and awt are Open's alone; else zeros */
-	struct port port;        /* as it is after the call */
-};
+SONERWAL_SIZE(phy, 16);
+SONERWAL_SIZE(port, 144);
+SONERWAL_SIZE(head, 24);
+SONERWAL_SIZE(stamp, 16);
+SONERWAL_SIZE(request, 88);
 
-struct wish {
-	struct head head;
-	uint64_t now;
-};
+struct sonerwal_port_step sonerwal_port_setup(struct sonerwal_request *list, size_t length, uint8_t count, uint16_t loss);
+struct sonerwal_port_step sonerwal_port_submit(struct sonerwal_request *list, size_t length, struct sonerwal_port port, struct sonerwal_open head,
+                                               uint64_t now);
+struct sonerwal_port_step sonerwal_port_cancel(struct sonerwal_request *list, size_t length, struct sonerwal_port port, uint64_t destination,
+                                               uint8_t protocol, uint16_t tag, uint64_t now);
+struct sonerwal_port_step sonerwal_port_choose(struct sonerwal_request *list, size_t length, struct sonerwal_port port, uint64_t now);
+struct sonerwal_port_step sonerwal_port_opened(struct sonerwal_request *list, size_t length, struct sonerwal_port port, uint8_t phy, uint64_t now);
+struct sonerwal_port_step sonerwal_port_open_failed(struct sonerwal_request *list, size_t length, struct sonerwal_port port, uint8_t phy,
+                                                    uint8_t reason, uint64_t now);
+struct sonerwal_port_step sonerwal_port_frame_status(struct sonerwal_request *list, size_t length, struct sonerwal_port port, uint8_t phy,
+                                                     uint8_t status, uint64_t now);
+struct sonerwal_port_step sonerwal_port_closed(struct sonerwal_request *list, size_t length, struct sonerwal_port port, uint8_t phy, uint64_t now);
+struct sonerwal_port_step sonerwal_port_enable(struct sonerwal_request *list, size_t length, struct sonerwal_port port, uint8_t phy, uint64_t now);
+struct sonerwal_port_step sonerwal_port_disable(struct sonerwal_request *list, size_t length, struct sonerwal_port port, uint8_t phy, uint64_t now);
 
+/* What names a request. */
 struct key {
 	uint64_t destination;
 	uint8_t protocol;
 	uint16_t tag;
 };
 
-struct withdrawn {
-	struct key key;
-	uint64_t now;
-};
-
-struct moment {
-	uint64_t now;
-};
-
-struct confirmed {
-	uint8_t phy;
-	uint64_t now;
-};
-
-struct failure {
-	uint8_t phy;
-	uint8_t why; /* enum reason */
-	uint64_t now;
-};
-
-struct report {
-	uint8_t phy, status;
-	uint64_t now;
-};
-
-struct reply port_setup(struct request *list, size_t length, uint8_t count, uint16_t loss);
-struct reply port_submit(struct request *list, size_t length, struct port port, struct wish wish);
-struct reply port_cancel(struct request *list, size_t length, struct port port, struct withdrawn withdrawn);
-struct reply port_choose(struct request *list, size_t length, struct port port, struct moment moment);
-struct reply port_opened(struct request *list, size_t length, struct port port, struct confirmed confirmed);
-struct reply port_open_failed(struct request *list, size_t length, struct port port, struct failure failure);
-struct reply port_frame_status(struct request *list, size_t length, struct port port, struct report report);
-struct reply port_closed(struct request *list, size_t length, struct port port, struct confirmed confirmed);
-struct reply port_enable(struct request *list, size_t length, struct port port, struct confirmed confirmed);
-struct reply port_disable(struct request *list, size_t length, struct port port, struct confirmed confirmed);
+/* A head as a frame, which is what submit is given. */
+static inline struct sonerwal_open frame_of(struct sonerwal_head head)
+{
+	return (struct sonerwal_open){.destination = head.destination, .source = head.source, .tag = head.tag, .initiator = head.initiator,
+	                              .protocol = head.protocol, .features = (uint8_t)head.features, .rate = (uint8_t)head.rate};
+}
 
 #endif

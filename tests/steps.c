@@ -1,53 +1,39 @@
 /*
- * START and every call of a transfer against a model with a queue (steps_model.h).
+ * START and every call of a transfer, through sonerwal.h, against a model with a queue (steps_model.h): after each call the answer,
+ * every member of the state and every lent byte.
  *
- * Calls the crate bench_steps.
+ * Usage: steps [SEED]
  */
-#include "../bench/steps.h"
 #include "check.h"
-#include "plain.h"
-#include "steps_model.h"
+#include "steps_draw.h"
+#include "steps_face.h"
 
 #include <stdio.h>
 #include <string.h>
 
-enum { MOST_RESENDS = 255, MOST_STEPS = 150, MOST_OUT = 24 + MOST_BODY + 8, CASES = 100000 };
+enum { MOST_RESENDS = 255, MOST_STEPS = 150, CASES = 100000 };
 
 /* ---- What was held against the library; a line that no case showed is a failure. */
 
-static const char *const call_names[CALLS] = {
-	[FRAME] = "FRAME", [ACK] = "ACK",     [NAK] = "NAK",       [TIMEOUT] = "TIMEOUT",
-	[LOST] = "LOST",   [NEXUS] = "NEXUS", [CANCEL] = "CANCEL", [NEXT_FRAME] = "next-frame",
-};
+#define BIT(answer) (1u << (answer))
+#define FRAME_SAYS                                                                                               \
+	(BIT(SONERWAL_REFUSED_UNFIT) | BIT(SONERWAL_REFUSED_DUE) | BIT(SONERWAL_REFUSED_SENT) | BIT(SONERWAL_REFUSED_FULL) | \
+	 BIT(SONERWAL_SENT))
+#define DROP_SAYS (BIT(SONERWAL_REFUSED_UNFIT) | BIT(SONERWAL_RETRY) | BIT(SONERWAL_FAIL))
+#define END_SAYS (BIT(SONERWAL_REFUSED_UNFIT) | BIT(SONERWAL_END))
 
-static const char *const said_names[SAIDS] = {
-	[REFUSED_LENGTH] = "1",     [REFUSED_UNLISTED] = "2", [REFUSED_RULES] = "3",  [REFUSED_UNFIT] = "6",
-	[REFUSED_DUE] = "7",        [REFUSED_SENT] = "8",     [REFUSED_FULL] = "10",  [SAID_OK] = "ok",
-	[SAID_SENT] = "sent",       [SAID_DRAIN] = "drain",   [SAID_RETRY] = "retry", [SAID_DONE] = "done",
-	[SAID_FAIL] = "fail",       [SAID_END] = "end",
-};
-
-#define BIT(said) (1u << (said))
-#define FRAME_SAYS (BIT(REFUSED_UNFIT) | BIT(REFUSED_DUE) | BIT(REFUSED_SENT) | BIT(REFUSED_FULL) | BIT(SAID_SENT))
-#define DROP_SAYS (BIT(REFUSED_UNFIT) | BIT(SAID_RETRY) | BIT(SAID_FAIL))
-#define END_SAYS (BIT(REFUSED_UNFIT) | BIT(SAID_END))
-
-/* What each call can say. */
+/* What each call can say of a transfer that keeps its rules. */
 static const unsigned says[CALLS] = {
+	[START] = BIT(SONERWAL_REFUSED_RULES) | BIT(SONERWAL_REFUSED_UNFIT) | BIT(SONERWAL_OK),
 	[FRAME] = FRAME_SAYS,
-	[ACK] = BIT(REFUSED_UNFIT) | BIT(SAID_OK) | BIT(SAID_DRAIN) | BIT(SAID_RETRY) | BIT(SAID_DONE),
-	[NAK] = DROP_SAYS | BIT(SAID_DRAIN),
+	[ACK] = BIT(SONERWAL_REFUSED_UNFIT) | BIT(SONERWAL_OK) | BIT(SONERWAL_DRAIN) | BIT(SONERWAL_RETRY) | BIT(SONERWAL_DONE),
+	[NAK] = DROP_SAYS | BIT(SONERWAL_DRAIN),
 	[TIMEOUT] = DROP_SAYS,
 	[LOST] = DROP_SAYS,
 	[NEXUS] = END_SAYS,
 	[CANCEL] = END_SAYS,
-	[NEXT_FRAME] = FRAME_SAYS | BIT(REFUSED_UNLISTED) | BIT(REFUSED_LENGTH),
+	[NEXT_FRAME] = FRAME_SAYS | BIT(SONERWAL_REFUSED_UNLISTED) | BIT(SONERWAL_REFUSED_LENGTH),
 };
-
-static unsigned long shown[CALLS][SAIDS];
-static unsigned long starts[SAIDS];
-static unsigned long pointers[2]; /* frames left in the output, by their changing data pointer */
-static unsigned long short_frames;
 
 static void show_line(const char *call, const char *said, unsigned long times)
 {
@@ -57,173 +43,94 @@ static void show_line(const char *call, const char *said, unsigned long times)
 
 static void show(void)
 {
-	show_line("START", said_names[REFUSED_RULES], starts[REFUSED_RULES]);
-	show_line("START", said_names[SAID_OK], starts[SAID_OK]);
 	for (int call = 0; call < CALLS; call++) {
-		for (int said = 0; said < SAIDS; said++) {
-			if (says[call] & BIT(said)) {
-				show_line(call_names[call], said_names[said], shown[call][said]);
+		for (uint8_t answer = 0; answer < ANSWERS; answer++) {
+			if (says[call] & BIT(answer)) {
+				show_line(step_names[call], sonerwal_answer_name(answer), steps_met[call][answer]);
+			} else {
+				check(steps_met[call][answer] == 0, "%s said %s", step_names[call], sonerwal_answer_name(answer));
 			}
 		}
 	}
-	show_line("next-frame", "written, pointer 0", pointers[0]);
-	show_line("next-frame", "written, pointer 1", pointers[1]);
-	show_line("next-frame", "written, below full size", short_frames);
+	show_line("next-frame", "written, pointer 0", steps_pointers[0]);
+	show_line("next-frame", "written, pointer 1", steps_pointers[1]);
+	show_line("next-frame", "written, below full size", steps_short);
 }
 
 /* ---- Cases */
 
-/* Requests of few frames and of many, at both ends of the range, with few resends and with many, one in four with a number off. */
-static struct request any_request(void)
+static const struct sides before_start;
+
+static bool started(struct sides *both, const struct request *q)
 {
-	struct request q;
-	q.m = (uint32_t)(4 * (1 + noise_below(256)));
-	q.n = (uint32_t)(1 + noise_below(q.m * (noise_below(2) ? 3 : 100)));
-	q.b = (uint32_t)(noise_below(2) ? noise_below(4096) : 4294967295 - q.n - noise_below(4));
-	q.r = (uint32_t)noise_below(noise_below(2) ? 4 : 256);
-	switch (noise_below(20)) {
-	case 0: q.m += 1 + (uint32_t)noise_below(3); break;
-	case 1: q.m = noise_below(2) ? 0 : 1028; break;
-	case 2: q.n = noise_below(2) ? 0 : UINT32_MAX; break;
-	case 3: q.b = UINT32_MAX - q.n + 1; break;
-	case 4: q.r = 256; break;
-	default: break;
-	}
-	return q;
+	*both = before_start;
+	return sides_agree(both, START, q, NULL);
 }
 
-static struct sending any_sending(const struct request *q)
+static bool repeated(struct sides *both, enum call call, uint32_t times)
 {
-	struct sending g;
-	g.fields[DATA_HASHED_DESTINATION] = noise_below(UINT64_C(1) << (noise_below(8) ? 24 : 32));
-	g.fields[DATA_HASHED_SOURCE] = noise_below(UINT64_C(1) << (noise_below(8) ? 24 : 32));
-	g.fields[DATA_TAG] = noise_below(65536);
-	noise_fill(g.body, sizeof g.body);
-	g.body_len = noise_below(4) ? q->m : noise_below(MOST_BODY);
-	if (q->n < q->m && noise_below(2)) {
-		g.body_len = q->n;
+	for (uint32_t i = 0; i < times; i++) {
+		if (!sides_agree(both, call, NULL, NULL)) {
+			return false;
+		}
 	}
-	g.out_len = 24 + g.body_len + noise_below(8);
-	return g;
-}
-
-/* Of a hundred calls, how many are of each kind: all alike, frames with some answers, and hardly anything but frames. */
-static const uint8_t mixes[][CALLS] = {
-	{13, 13, 13, 12, 12, 12, 12, 13},
-	{23, 40, 4, 3, 3, 1, 1, 25},
-	{48, 2, 1, 0, 0, 0, 0, 49},
-};
-
-static uint8_t any_call(const uint8_t mix[CALLS])
-{
-	uint64_t at = noise_below(100);
-	uint8_t call = 0;
-	while (at >= mix[call]) {
-		at -= mix[call++];
-	}
-	return (uint8_t)(call + CALLS * noise_below(32));
-}
-
-static bool frames_agree(const struct request *q, uint32_t frames)
-{
-	struct model t;
-	queue_start(&t, q);
-	for (uint32_t i = 0; i < frames; i++) {
-		queue_call(&t, FRAME, NULL, NULL);
-	}
-	return bench_frames(q->b, q->n, q->m, q->r, frames) == t.read;
+	return true;
 }
 
 static bool acks_agree(const struct request *q, uint32_t frames, uint32_t acks)
 {
-	struct model t;
-	queue_start(&t, q);
-	for (uint32_t i = 0; i < frames; i++) {
-		queue_call(&t, FRAME, NULL, NULL);
-	}
-	for (uint32_t i = 0; i < acks; i++) {
-		queue_call(&t, ACK, NULL, NULL);
-	}
-	return bench_acks(q->b, q->n, q->m, q->r, frames, acks) == t.balance;
+	struct sides both;
+	return started(&both, q) && repeated(&both, FRAME, frames) && repeated(&both, ACK, acks);
 }
 
 static bool turns_agree(const struct request *q, uint32_t rounds)
 {
-	struct model t;
-	queue_start(&t, q);
-	for (uint32_t i = 0; i < rounds; i++) {
-		queue_call(&t, FRAME, NULL, NULL);
-		queue_call(&t, ACK, NULL, NULL);
+	struct sides both;
+	bool good = started(&both, q);
+	for (uint32_t i = 0; good && i < rounds; i++) {
+		good = sides_agree(&both, FRAME, NULL, NULL) && sides_agree(&both, ACK, NULL, NULL);
 	}
-	return bench_turns(q->b, q->n, q->m, q->r, rounds) == t.balance;
+	return good;
+}
+
+static bool next_agrees(struct sides *both)
+{
+	static struct sending g;
+	draw_sending(&g, queue_length(&both->t));
+	return sides_agree(both, NEXT_FRAME, NULL, &g);
 }
 
 static bool nexts_agree(const struct request *q, uint32_t frames)
 {
-	uint8_t expected[MOST_OUT], out[MOST_OUT];
-	struct sending g = any_sending(q);
-	struct model t;
-	queue_start(&t, q);
-	noise_fill(expected, sizeof expected);
-	memcpy(out, expected, sizeof out);
-	for (uint32_t i = 0; i < frames; i++) {
-		queue_call(&t, NEXT_FRAME, &g, expected);
+	struct sides both;
+	bool good = started(&both, q);
+	for (uint32_t i = 0; good && i < frames; i++) {
+		good = next_agrees(&both);
 	}
-	uint32_t read = bench_next(q->b, q->n, q->m, q->r, frames, (uint32_t)g.fields[DATA_HASHED_DESTINATION],
-	                           (uint32_t)g.fields[DATA_HASHED_SOURCE], (uint16_t)g.fields[DATA_TAG], g.body,
-	                           g.body_len, out, g.out_len);
-	return read == t.read && memcmp(out, expected, sizeof out) == 0;
+	return good;
 }
 
-/* The model's answer to the last of these calls, and its output. */
-static enum said model_calls(const struct request *q, const uint8_t *calls, size_t count, const struct sending *g,
-                             uint8_t *out)
+static bool calls_agree(const struct request *q, uint32_t count)
 {
-	struct model t;
-	enum said said = queue_start(&t, q);
-	bool written = false;
-	for (size_t i = 0; i < count; i++) {
-		enum call call = calls[i] % CALLS;
-		said = queue_call(&t, call, g, out);
-		written |= call == NEXT_FRAME && said == SAID_SENT;
-	}
-	if (count == 0) {
-		starts[said]++;
-	} else {
-		shown[calls[count - 1] % CALLS][said]++;
-	}
-	if (written) {
-		pointers[out[10]]++;
-		short_frames += g->body_len < q->m;
-	}
-	return said;
-}
-
-static bool calls_agree(const struct request *q, size_t count)
-{
-	uint8_t expected[MOST_OUT], out[MOST_OUT], calls[MOST_STEPS];
-	struct sending g = any_sending(q);
-	const uint8_t *mix = mixes[noise_below(sizeof mixes / sizeof *mixes)];
-	for (size_t i = 0; i < count; i++) {
+	struct sides both;
+	int mix = (int)noise_below(MIXES);
+	bool good = started(&both, q);
+	for (uint32_t i = 0; good && i < count; i++) {
 		/* the last is any call, so that each is met in every place */
-		calls[i] = any_call(i + 1 == count ? mixes[0] : mix);
+		enum call call = draw_call(i + 1 == count ? 0 : mix);
+		struct request other = draw_any_request();
+		good = call == NEXT_FRAME ? next_agrees(&both) : sides_agree(&both, call, &other, NULL);
 	}
-	noise_fill(expected, sizeof expected);
-	memcpy(out, expected, sizeof out);
-	enum said said = model_calls(q, calls, count, &g, expected);
-	uint8_t number = bench_calls(q->b, q->n, q->m, q->r, calls, count, (uint32_t)g.fields[DATA_HASHED_DESTINATION],
-	                             (uint32_t)g.fields[DATA_HASHED_SOURCE], (uint16_t)g.fields[DATA_TAG], g.body,
-	                             g.body_len, out, g.out_len);
-	return number == said && memcmp(out, expected, sizeof out) == 0;
+	return good;
 }
 
 static void any_cases(void)
 {
 	unsigned long frames = 0, acks = 0, turns = 0, nexts = 0, calls = 0;
 	for (int i = 0; i < CASES; i++) {
-		struct request q = any_request();
+		struct request q = draw_any_request();
 		uint32_t steps = (uint32_t)noise_below(MOST_STEPS), more = (uint32_t)noise_below(MOST_STEPS);
-		frames += !frames_agree(&q, steps);
+		frames += !acks_agree(&q, steps, 0);
 		acks += !acks_agree(&q, steps, more);
 		turns += !turns_agree(&q, steps);
 		nexts += !nexts_agree(&q, steps % 8);
@@ -236,22 +143,30 @@ static void any_cases(void)
 	check(calls == 0, "calls of any kind: %lu of %d cases", calls, CASES);
 }
 
+/* ---- Single transfers, through the calls that keep a state in place */
+
+static struct sonerwal_transfer begun(uint32_t n, uint32_t r)
+{
+	struct sonerwal_transfer s = {0};
+	check(sonerwal_transfer_keep(&s, sonerwal_transfer_start(s, 0, n, 4, r)) == SONERWAL_OK, "START 0 %u 4 %u is refused", (unsigned)n,
+	      (unsigned)r);
+	return s;
+}
+
 /* 01 EXAMPLE.6 */
 static void sixteen(void)
 {
-	check(bench_acks(0, 100, 4, 0, 16, 0) == 0, "sixteen unanswered frames move the balance point");
-	check(bench_acks(0, 100, 4, 0, 16, 15) == 0, "fifteen of sixteen ACKs move the balance point");
-	check(bench_acks(0, 100, 4, 0, 16, 16) == 64, "sixteen ACKs of sixteen don't move the balance point");
-}
-
-/* What the last of some rounds of FRAME and NAK says, with r resends. */
-static uint8_t nacked(uint32_t r, size_t rounds)
-{
-	uint8_t calls[2 * (MOST_RESENDS + 1)], body[1] = {0}, out[1] = {0};
-	for (size_t i = 0; i < 2 * rounds; i++) {
-		calls[i] = i % 2 ? NAK : FRAME;
+	struct sonerwal_transfer s = begun(100, 0);
+	for (int i = 0; i < 16; i++) {
+		sonerwal_transfer_keep(&s, sonerwal_transfer_frame(s));
 	}
-	return bench_calls(0, 4, 4, r, calls, 2 * rounds, 0, 0, 0, body, 0, out, 0);
+	check(s.balance == 0 && s.unanswered == 16, "sixteen unanswered frames move the balance point");
+	for (int i = 0; i < 15; i++) {
+		sonerwal_transfer_keep(&s, sonerwal_transfer_ack(s));
+	}
+	check(s.balance == 0 && s.unanswered == 1, "fifteen of sixteen ACKs move the balance point");
+	check(sonerwal_transfer_keep(&s, sonerwal_transfer_ack(s)) == SONERWAL_OK && s.balance == 64 && s.unanswered == 0,
+	      "sixteen ACKs of sixteen don't move the balance point");
 }
 
 /* 01 READ.1 01 READ.11: each of R resends is had, and none more */
@@ -259,11 +174,44 @@ static void resends(void)
 {
 	unsigned long had = 0, ended = 0;
 	for (uint32_t r = 0; r <= MOST_RESENDS; r++) {
-		had += r == 0 || nacked(r, r) == SAID_RETRY;
-		ended += nacked(r, r + 1) == SAID_FAIL;
+		struct sonerwal_transfer s = begun(4, r);
+		uint32_t retries = 0;
+		uint8_t answer = SONERWAL_RETRY;
+		while (answer == SONERWAL_RETRY) {
+			sonerwal_transfer_keep(&s, sonerwal_transfer_frame(s));
+			answer = sonerwal_transfer_keep(&s, sonerwal_transfer_nak(s));
+			retries += answer == SONERWAL_RETRY;
+		}
+		had += retries == r;
+		ended += answer == SONERWAL_FAIL && s.phase == SONERWAL_PHASE_FAILED && s.used == r;
 	}
-	check(had == MOST_RESENDS + 1, "a resend that is allowed is not had");
+	check(had == MOST_RESENDS + 1, "a resend that is allowed is not had, or one that isn't is");
 	check(ended == MOST_RESENDS + 1, "a transfer goes on past its resends, or fails before");
+}
+
+/* ---- What a step leaves of the stack: nothing */
+
+static void stains(void)
+{
+	static const struct request other = {8, 16, 4, 2};
+	static struct sending g;
+	unsigned long kept = 0;
+	struct model t;
+	draw_sending(&g, 4);
+	for (int i = 0; i < 10000; i++) {
+		struct sonerwal_transfer_step step[2];
+		uint8_t out[MOST_OUT];
+		draw_transfer(&t);
+		struct sonerwal_transfer s = queue_shown(&t);
+		for (int side = 0; side < 2; side++) {
+			uint8_t pattern = side ? 0xA5 : 0x5A;
+			memset(&step[side], pattern, sizeof step[side]);
+			stain_stack(pattern);
+			step[side] = face_call(s, (enum call)(i % CALLS), &other, &g, out);
+		}
+		kept += member_off(&step[0].state, &step[1].state) != NULL || step[0].answer != step[1].answer;
+	}
+	check(kept == 0, "%lu steps hold what the stack held", kept);
 }
 
 int main(int argc, char **argv)
@@ -273,5 +221,6 @@ int main(int argc, char **argv)
 	show();
 	sixteen();
 	resends();
+	stains();
 	return check_end("steps");
 }

@@ -47,7 +47,7 @@ static size_t bytes_of(const char *hex, uint8_t *bytes)
 struct open_vector {
 	const char *member;
 	const char *bytes;
-	struct sas_open fields;
+	struct sonerwal_open fields;
 	enum direction direction;
 	uint8_t answer;
 };
@@ -65,40 +65,40 @@ struct open_vector {
  */
 static const struct open_vector opens[] = {
 	{MVSAS "mvs_task_prep_smp(), buf_oaf[0], bits 3 to 0",
-	 "01 08 0000 0000000000000000 0000000000000000 00 00 0000 00000000", {.rate = 8}, BOTH, SAS_OK},
+	 "01 08 0000 0000000000000000 0000000000000000 00 00 0000 00000000", {.rate = 8}, BOTH, SONERWAL_OK},
 	{MVSAS "mvs_task_prep_smp(), buf_oaf[0], bit 7",
-	 "81 08 0000 0000000000000000 0000000000000000 00 00 0000 00000000", {.rate = 8, .initiator = 1}, BOTH, SAS_OK},
+	 "81 08 0000 0000000000000000 0000000000000000 00 00 0000 00000000", {.rate = 8, .initiator = 1}, BOTH, SONERWAL_OK},
 	{MVDEFS "enum open_frame_protocol, PROTOCOL_SSP",
-	 "11 08 0000 0000000000000000 0000000000000000 00 00 0000 00000000", {.rate = 8, .protocol = 1}, BOTH, SAS_OK},
+	 "11 08 0000 0000000000000000 0000000000000000 00 00 0000 00000000", {.rate = 8, .protocol = 1}, BOTH, SONERWAL_OK},
 	{MVDEFS "enum open_frame_protocol, PROTOCOL_STP",
-	 "21 08 0000 0000000000000000 0000000000000000 00 00 0000 00000000", {.rate = 8, .protocol = 2}, BOTH, SAS_OK},
+	 "21 08 0000 0000000000000000 0000000000000000 00 00 0000 00000000", {.rate = 8, .protocol = 2}, BOTH, SONERWAL_OK},
 	{ISCI "oaf_features, above oaf_connection_rate",
-	 "01 58 0000 0000000000000000 0000000000000000 00 00 0000 00000000", {.rate = 8, .features = 5}, BOTH, SAS_OK},
+	 "01 58 0000 0000000000000000 0000000000000000 00 00 0000 00000000", {.rate = 8, .features = 5}, BOTH, SONERWAL_OK},
 	{RATES "SAS_LINK_RATE_3_0_GBPS, in " MVSAS "buf_oaf[1]",
-	 "01 09 0000 0000000000000000 0000000000000000 00 00 0000 00000000", {.rate = 9}, BOTH, SAS_OK},
+	 "01 09 0000 0000000000000000 0000000000000000 00 00 0000 00000000", {.rate = 9}, BOTH, SONERWAL_OK},
 	{RATES "SAS_LINK_RATE_6_0_GBPS, in " MVSAS "buf_oaf[1]",
-	 "01 0A 0000 0000000000000000 0000000000000000 00 00 0000 00000000", {.rate = 10}, BOTH, SAS_OK},
+	 "01 0A 0000 0000000000000000 0000000000000000 00 00 0000 00000000", {.rate = 10}, BOTH, SONERWAL_OK},
 	{MVSAS "mvs_task_prep_ssp(), buf_oaf + 2",
-	 "01 08 1234 0000000000000000 0000000000000000 00 00 0000 00000000", {.rate = 8, .tag = 0x1234}, BOTH, SAS_OK},
+	 "01 08 1234 0000000000000000 0000000000000000 00 00 0000 00000000", {.rate = 8, .tag = 0x1234}, BOTH, SONERWAL_OK},
 	{MVSAS "mvs_task_prep_ssp(), buf_oaf + 4",
 	 "01 08 0000 5000C50012345678 0000000000000000 00 00 0000 00000000",
-	 {.rate = 8, .destination = UINT64_C(0x5000C50012345678)}, BOTH, SAS_OK},
+	 {.rate = 8, .destination = UINT64_C(0x5000C50012345678)}, BOTH, SONERWAL_OK},
 	{AIC_DDB "(bytes 12 to 19 left out); " SAS_H "struct sas_identify_frame.sas_addr",
 	 "01 08 0000 0000000000000000 5003048087654321 00 00 0000 00000000",
-	 {.rate = 8, .source = UINT64_C(0x5003048087654321)}, BOTH, SAS_OK},
+	 {.rate = 8, .source = UINT64_C(0x5003048087654321)}, BOTH, SONERWAL_OK},
 	{AIC_DDB "compat_features",
-	 "01 08 0000 0000000000000000 0000000000000000 C3 00 0000 00000000", {.rate = 8}, READ, SAS_OK},
+	 "01 08 0000 0000000000000000 0000000000000000 C3 00 0000 00000000", {.rate = 8}, READ, SONERWAL_OK},
 	{AIC_DDB "pathway_blocked_count",
-	 "01 08 0000 0000000000000000 0000000000000000 00 7B 0000 00000000", {.rate = 8, .pbc = 0x7B}, BOTH, SAS_OK},
+	 "01 08 0000 0000000000000000 0000000000000000 00 7B 0000 00000000", {.rate = 8, .pbc = 0x7B}, BOTH, SONERWAL_OK},
 	{AIC_DDB "arb_wait_time",
-	 "01 08 0000 0000000000000000 0000000000000000 00 00 89AB 00000000", {.rate = 8, .awt = 0x89AB}, BOTH, SAS_OK},
+	 "01 08 0000 0000000000000000 0000000000000000 00 00 89AB 00000000", {.rate = 8, .awt = 0x89AB}, BOTH, SONERWAL_OK},
 	{AIC_DDB "more_compat_features",
-	 "01 08 0000 0000000000000000 0000000000000000 00 00 0000 DEADBEEF", {.rate = 8}, READ, SAS_OK},
+	 "01 08 0000 0000000000000000 0000000000000000 00 00 0000 DEADBEEF", {.rate = 8}, READ, SONERWAL_OK},
 	{RATES "SAS_LINK_RATE_12_0_GBPS, which 01 doesn't list",
-	 "01 0B 0000 0000000000000000 0000000000000000 00 00 0000 00000000", {.rate = 11}, BOTH, SAS_REFUSED_UNLISTED},
+	 "01 0B 0000 0000000000000000 0000000000000000 00 00 0000 00000000", {.rate = 11}, BOTH, SONERWAL_REFUSED_UNLISTED},
 };
 
-static bool same_open(const struct sas_open *a, const struct sas_open *b)
+static bool same_open(const struct sonerwal_open *a, const struct sonerwal_open *b)
 {
 	return a->initiator == b->initiator && a->protocol == b->protocol && a->features == b->features &&
 	       a->rate == b->rate && a->tag == b->tag && a->destination == b->destination && a->source == b->source &&
@@ -107,26 +107,26 @@ static bool same_open(const struct sas_open *a, const struct sas_open *b)
 
 static void read_open(const struct open_vector *vector)
 {
-	struct sas_open before, read;
-	uint8_t frame[SAS_OPEN_SIZE];
+	struct sonerwal_open before, read;
+	uint8_t frame[SONERWAL_OPEN_SIZE];
 	memset(&before, 0x5A, sizeof before);
 	read = before;
 	size_t len = bytes_of(vector->bytes, frame);
-	uint8_t answer = sas_open_get(&read, frame, len);
-	check(len == SAS_OPEN_SIZE && answer == vector->answer, "OPEN read, %s: answer %d", vector->member, answer);
-	check(same_open(&read, vector->answer == SAS_OK ? &vector->fields : &before), "OPEN read, %s: fields",
+	uint8_t answer = sonerwal_open_get(&read, frame, len);
+	check(len == SONERWAL_OPEN_SIZE && answer == vector->answer, "OPEN read, %s: answer %d", vector->member, answer);
+	check(same_open(&read, vector->answer == SONERWAL_OK ? &vector->fields : &before), "OPEN read, %s: fields",
 	      vector->member);
 }
 
 static void write_open(const struct open_vector *vector)
 {
-	uint8_t expected[SAS_OPEN_SIZE], frame[SAS_OPEN_SIZE];
+	uint8_t expected[SONERWAL_OPEN_SIZE], frame[SONERWAL_OPEN_SIZE];
 	memset(frame, 0x5A, sizeof frame);
 	memcpy(expected, frame, sizeof frame);
-	if (vector->answer == SAS_OK) {
+	if (vector->answer == SONERWAL_OK) {
 		bytes_of(vector->bytes, expected);
 	}
-	uint8_t answer = sas_open_put(&vector->fields, frame, sizeof frame);
+	uint8_t answer = sonerwal_open_put(&vector->fields, frame, sizeof frame);
 	check(answer == vector->answer, "OPEN write, %s: answer %d", vector->member, answer);
 	check(memcmp(frame, expected, sizeof frame) == 0, "OPEN write, %s: bytes", vector->member);
 }
@@ -136,7 +136,7 @@ static void write_open(const struct open_vector *vector)
 struct data_vector {
 	const char *member;
 	const char *bytes; /* the header, then the data with its fill */
-	struct sas_data fields;
+	struct sonerwal_data fields;
 	enum direction direction;
 	uint8_t answer;
 };
@@ -150,62 +150,62 @@ struct data_vector {
  */
 static const struct data_vector datas[] = {
 	{SAS_H "SSP_DATA, in struct ssp_frame_hdr.frame_type",
-	 "01 000000 00 000000 0000 00 00 00000000 0000 FFFF 00000000 00000000", {.length = 4}, BOTH, SAS_OK},
+	 "01 000000 00 000000 0000 00 00 00000000 0000 FFFF 00000000 00000000", {.length = 4}, BOTH, SONERWAL_OK},
 	{HEADER "hashed_dest_addr",
 	 "01 A1B2C3 00 000000 0000 00 00 00000000 0000 FFFF 00000000 00000000",
-	 {.length = 4, .hashed_destination = 0xA1B2C3}, BOTH, SAS_OK},
+	 {.length = 4, .hashed_destination = 0xA1B2C3}, BOTH, SONERWAL_OK},
 	{HEADER "hashed_src_addr",
 	 "01 000000 00 D4E5F6 0000 00 00 00000000 0000 FFFF 00000000 00000000",
-	 {.length = 4, .hashed_source = 0xD4E5F6}, BOTH, SAS_OK},
+	 {.length = 4, .hashed_source = 0xD4E5F6}, BOTH, SONERWAL_OK},
 	{HEADER "changing_data_ptr",
 	 "01 000000 00 000000 0000 01 00 00000000 0000 FFFF 00000000 00000000",
-	 {.length = 4, .changing = 1}, BOTH, SAS_OK},
+	 {.length = 4, .changing = 1}, BOTH, SONERWAL_OK},
 	{HEADER "num_fill_bytes of 1",
-	 "01 000000 00 000000 0000 00 01 00000000 0000 FFFF 00000000 00000000", {.length = 3}, BOTH, SAS_OK},
+	 "01 000000 00 000000 0000 00 01 00000000 0000 FFFF 00000000 00000000", {.length = 3}, BOTH, SONERWAL_OK},
 	{HEADER "num_fill_bytes of 2",
-	 "01 000000 00 000000 0000 00 02 00000000 0000 FFFF 00000000 00000000", {.length = 2}, BOTH, SAS_OK},
+	 "01 000000 00 000000 0000 00 02 00000000 0000 FFFF 00000000 00000000", {.length = 2}, BOTH, SONERWAL_OK},
 	{HEADER "num_fill_bytes of 3",
-	 "01 000000 00 000000 0000 00 03 00000000 0000 FFFF 00000000 00000000", {.length = 1}, BOTH, SAS_OK},
+	 "01 000000 00 000000 0000 00 03 00000000 0000 FFFF 00000000 00000000", {.length = 1}, BOTH, SONERWAL_OK},
 	{HEADER "tag",
 	 "01 000000 00 000000 0000 00 00 00000000 5678 FFFF 00000000 00000000",
-	 {.length = 4, .tag = 0x5678}, BOTH, SAS_OK},
+	 {.length = 4, .tag = 0x5678}, BOTH, SONERWAL_OK},
 	{HEADER "data_offs",
 	 "01 000000 00 000000 0000 00 00 00000000 0000 FFFF 89ABCDEF 00000000",
-	 {.length = 4, .offset = 0x89ABCDEF}, BOTH, SAS_OK},
+	 {.length = 4, .offset = 0x89ABCDEF}, BOTH, SONERWAL_OK},
 	{HEADER "(size, 24): data",
 	 "01 000000 00 000000 0000 00 00 00000000 0000 FFFF 00000000 01020304 05060708",
-	 {.length = 8}, BOTH, SAS_OK},
+	 {.length = 8}, BOTH, SONERWAL_OK},
 	{HEADER "(size, 24): data, num_fill_bytes of 3",
 	 "01 000000 00 000000 0000 00 03 00000000 0000 FFFF 00000000 01020304 05000000",
-	 {.length = 5}, BOTH, SAS_OK},
+	 {.length = 5}, BOTH, SONERWAL_OK},
 
 	{HEADER "num_fill_bytes of 1, fill not zero",
-	 "01 000000 00 000000 0000 00 01 00000000 0000 FFFF 00000000 00000001", {0}, READ, SAS_REFUSED_UNLISTED},
+	 "01 000000 00 000000 0000 00 01 00000000 0000 FFFF 00000000 00000001", {0}, READ, SONERWAL_REFUSED_UNLISTED},
 	{HEADER "retransmit",
-	 "01 000000 00 000000 0000 02 00 00000000 0000 FFFF 00000000 00000000", {0}, READ, SAS_REFUSED_UNLISTED},
+	 "01 000000 00 000000 0000 02 00 00000000 0000 FFFF 00000000 00000000", {0}, READ, SONERWAL_REFUSED_UNLISTED},
 	{HEADER "retry_data_frames",
-	 "01 000000 00 000000 0000 04 00 00000000 0000 FFFF 00000000 00000000", {0}, READ, SAS_REFUSED_UNLISTED},
+	 "01 000000 00 000000 0000 04 00 00000000 0000 FFFF 00000000 00000000", {0}, READ, SONERWAL_REFUSED_UNLISTED},
 	{HEADER "_r_a",
-	 "01 000000 01 000000 0000 00 00 00000000 0000 FFFF 00000000 00000000", {0}, READ, SAS_REFUSED_UNLISTED},
+	 "01 000000 01 000000 0000 00 00 00000000 0000 FFFF 00000000 00000000", {0}, READ, SONERWAL_REFUSED_UNLISTED},
 	{HEADER "_r_b",
-	 "01 000000 00 000000 0100 00 00 00000000 0000 FFFF 00000000 00000000", {0}, READ, SAS_REFUSED_UNLISTED},
+	 "01 000000 00 000000 0100 00 00 00000000 0000 FFFF 00000000 00000000", {0}, READ, SONERWAL_REFUSED_UNLISTED},
 	{HEADER "_r_c",
-	 "01 000000 00 000000 0000 08 00 00000000 0000 FFFF 00000000 00000000", {0}, READ, SAS_REFUSED_UNLISTED},
+	 "01 000000 00 000000 0000 08 00 00000000 0000 FFFF 00000000 00000000", {0}, READ, SONERWAL_REFUSED_UNLISTED},
 	{HEADER "_r_d",
-	 "01 000000 00 000000 0000 00 04 00000000 0000 FFFF 00000000 00000000", {0}, READ, SAS_REFUSED_UNLISTED},
+	 "01 000000 00 000000 0000 00 04 00000000 0000 FFFF 00000000 00000000", {0}, READ, SONERWAL_REFUSED_UNLISTED},
 	{HEADER "_r_e",
-	 "01 000000 00 000000 0000 00 00 00000001 0000 FFFF 00000000 00000000", {0}, READ, SAS_REFUSED_UNLISTED},
+	 "01 000000 00 000000 0000 00 00 00000001 0000 FFFF 00000000 00000000", {0}, READ, SONERWAL_REFUSED_UNLISTED},
 	{AIC_TASK "ssp_frame.tptt, not all ones",
-	 "01 000000 00 000000 0000 00 00 00000000 0000 FFFE 00000000 00000000", {0}, READ, SAS_REFUSED_UNLISTED},
+	 "01 000000 00 000000 0000 00 00 00000000 0000 FFFE 00000000 00000000", {0}, READ, SONERWAL_REFUSED_UNLISTED},
 	{SAS_H "SSP_XFER_RDY, in struct ssp_frame_hdr.frame_type",
-	 "05 000000 00 000000 0000 00 00 00000000 0000 FFFF 00000000 00000000", {0}, READ, SAS_REFUSED_UNLISTED},
+	 "05 000000 00 000000 0000 00 00 00000000 0000 FFFF 00000000 00000000", {0}, READ, SONERWAL_REFUSED_UNLISTED},
 	{SAS_H "SSP_COMMAND, in struct ssp_frame_hdr.frame_type",
-	 "06 000000 00 000000 0000 00 00 00000000 0000 FFFF 00000000 00000000", {0}, READ, SAS_REFUSED_UNLISTED},
+	 "06 000000 00 000000 0000 00 00 00000000 0000 FFFF 00000000 00000000", {0}, READ, SONERWAL_REFUSED_UNLISTED},
 };
 
 enum { DATA_ROOM = 40 }; /* more than any vector here has */
 
-static bool same_data(const struct sas_data *a, const struct sas_data *b)
+static bool same_data(const struct sonerwal_data *a, const struct sonerwal_data *b)
 {
 	return a->hashed_destination == b->hashed_destination && a->hashed_source == b->hashed_source &&
 	       a->changing == b->changing && a->tag == b->tag && a->offset == b->offset && a->length == b->length;
@@ -213,13 +213,13 @@ static bool same_data(const struct sas_data *a, const struct sas_data *b)
 
 static void read_data(const struct data_vector *vector)
 {
-	struct sas_data before, read;
+	struct sonerwal_data before, read;
 	uint8_t frame[DATA_ROOM];
 	memset(&before, 0x5A, sizeof before);
 	read = before;
-	uint8_t answer = sas_data_get(&read, frame, bytes_of(vector->bytes, frame));
+	uint8_t answer = sonerwal_data_get(&read, frame, bytes_of(vector->bytes, frame));
 	check(answer == vector->answer, "DATA read, %s: answer %d", vector->member, answer);
-	check(same_data(&read, vector->answer == SAS_OK ? &vector->fields : &before), "DATA read, %s: fields",
+	check(same_data(&read, vector->answer == SONERWAL_OK ? &vector->fields : &before), "DATA read, %s: fields",
 	      vector->member);
 }
 
@@ -229,43 +229,15 @@ static void write_data(const struct data_vector *vector)
 	memset(frame, 0x5A, sizeof frame);
 	memcpy(expected, frame, sizeof frame);
 	size_t len = bytes_of(vector->bytes, expected);
-	uint8_t answer = sas_data_put(&vector->fields, sas_data_body(expected), frame, sizeof frame);
+	uint8_t answer = sonerwal_data_put(&vector->fields, sonerwal_data_body(expected), frame, sizeof frame);
 	check(answer == vector->answer, "DATA write, %s: answer %d", vector->member, answer);
-	check(len == sas_data_size(vector->fields.length), "DATA write, %s: size", vector->member);
+	check(len == sonerwal_data_size(vector->fields.length), "DATA write, %s: size", vector->member);
 	check(memcmp(frame, expected, sizeof frame) == 0, "DATA write, %s: bytes", vector->member);
 }
-
-/* ---- The header's own names for document 01's numbers */
-
-static const struct {
-	const char *name;
-	unsigned value, number;
-} names[] = {
-	{"SAS_OK", SAS_OK, 0},
-	{"SAS_REFUSED_LENGTH", SAS_REFUSED_LENGTH, 1},
-	{"SAS_REFUSED_UNLISTED", SAS_REFUSED_UNLISTED, 2},
-	{"SAS_OPEN_SIZE", SAS_OPEN_SIZE, 28},
-	{"SAS_PROTOCOL_SMP", SAS_PROTOCOL_SMP, 0},
-	{"SAS_PROTOCOL_SSP", SAS_PROTOCOL_SSP, 1},
-	{"SAS_PROTOCOL_STP", SAS_PROTOCOL_STP, 2},
-	{"SAS_RATE_1_5_GBPS", SAS_RATE_1_5_GBPS, 8},
-	{"SAS_RATE_3_GBPS", SAS_RATE_3_GBPS, 9},
-	{"SAS_RATE_6_GBPS", SAS_RATE_6_GBPS, 10},
-	{"SAS_FEATURES_MAX", SAS_FEATURES_MAX, 15},
-	{"SAS_DATA_HEADER_SIZE", SAS_DATA_HEADER_SIZE, 24},
-	{"SAS_DATA_BODY_MIN", SAS_DATA_BODY_MIN, 1},
-	{"SAS_DATA_BODY_MAX", SAS_DATA_BODY_MAX, 1024},
-	{"SAS_DATA_SIZE_MIN", SAS_DATA_SIZE_MIN, 28},
-	{"SAS_DATA_SIZE_MAX", SAS_DATA_SIZE_MAX, 1048},
-	{"SAS_HASHED_ADDRESS_MAX", SAS_HASHED_ADDRESS_MAX, 16777215},
-};
 
 /* 01 PROMISE.5 */
 int main(void)
 {
-	for (size_t i = 0; i < sizeof names / sizeof *names; i++) {
-		check(names[i].value == names[i].number, "%s is %u", names[i].name, names[i].value);
-	}
 	for (size_t i = 0; i < sizeof opens / sizeof *opens; i++) {
 		read_open(&opens[i]);
 		if (opens[i].direction == BOTH) {

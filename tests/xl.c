@@ -1,15 +1,17 @@
 /*
- * XL's table, typed by hand from document 01 (xl_model.c), against every cell that the program xl_table prints: each state, each
- * memory that can be lent with it, each event. The gate shows that crates/xl_table/stdout is what the program prints.
+ * XL's table, typed by hand from document 01 (xl_model.c), against every cell that the program xl_table prints and that sonerwal.h's calls
+ * give: each state, each memory that can be lent with it, each event. The gate shows that crates/xl_table/stdout is what the program
+ * prints.
  */
 #include "check.h"
+#include "xl_face.h"
 #include "xl_model.h"
 
 #include <stdio.h>
 #include <stdlib.h>
 #include <string.h>
 
-enum { MEMORIES = 160, EVENTS = 48, LINE = 8192 };
+enum { MEMORIES = 160, EVENTS = 48, LINE = 8192, COUNT = 7 };
 
 /* The events in the order of the cells. */
 static const char *const events[EVENTS] = {
@@ -49,12 +51,49 @@ static struct odd odds[] = {
 	{10, "-o-001", "XL10 with an OPEN and Blocked On Partial remembered", 0},
 };
 
-static unsigned long cells;
+/* The frames of xl_table's cells: the OPENs are of higher priority than the frame transmitted, and for another path. */
+#define LISTED .initiator = 1, .protocol = SONERWAL_PROTOCOL_SSP, .rate = 9
+static const struct frames table_frames = {
+	.held = {LISTED, .tag = 1, .awt = 100, .destination = 2000, .source = 1000},
+	.event = {LISTED, .tag = 2, .awt = 200, .destination = 4000, .source = 3000},
+	.heard = {LISTED, .tag = 3, .awt = 300, .destination = 4000, .source = 3001},
+};
+static const struct crossing elsewhere = {.higher = true, .back = false};
+
+static unsigned long cells, calls;
 
 static void same(const char *where, const char *expected, const char *found)
 {
 	cells++;
 	check(found && strcmp(expected, found) == 0, "%s: document 01 has %s, the program %s", where, expected, found ? found : "nothing");
+}
+
+/* The same of an event given to sonerwal_link_event(). */
+static void same_event(const char *where, const char *expected, const struct sonerwal_link *s, const char *event, const struct frames *frames)
+{
+	char found[CELL];
+	calls++;
+	face_cell(s, event_named(event), frames, found);
+	check(strcmp(expected, found) == 0, "%s: document 01 has %s, sonerwal_link_event() %s", where, expected, found);
+}
+
+/* And of bytes given to sonerwal_link_receive(). */
+static void same_received(const char *where, const char *expected, const struct sonerwal_link *s, const uint8_t *frame, size_t frame_len)
+{
+	char found[CELL];
+	struct sonerwal_link_step step = sonerwal_link_receive(*s, frame, frame_len);
+	calls++;
+	step_cell(s, &step, &table_frames, found);
+	check(strcmp(expected, found) == 0, "%s: document 01 has %s, sonerwal_link_receive() %s", where, expected, found);
+}
+
+/* 01 XL.39 */
+static void same_status(const char *where, char expected, const struct sonerwal_link *s)
+{
+	uint8_t status = sonerwal_link_status(*s);
+	char found = status == 48 ? 'R' : status == 49 ? 'P' : status == 50 ? 'B' : status == 51 ? 'C' : status == 3 ? '3' : '?';
+	calls++;
+	check(found == expected, "%s: document 01 has %c, sonerwal_link_status() %d", where, expected, status);
 }
 
 /* Cuts the next field off; NULL if there is none. */
@@ -76,16 +115,32 @@ static void compare_state(int state, const char *memory, char **at)
 {
 	char where[2 * CELL], expected[CELL];
 	char status[2] = {link_status(state, memory), '\0'};
+	struct sonerwal_link s = link_of(state, memory, &table_frames, COUNT);
 	snprintf(where, sizeof where, "XL%d, memory %s, link status", state, memory);
 	same(where, status, field(at));
+	same_status(where, status[0], &s);
 	for (int i = 0; i < EVENTS; i++) {
 		snprintf(where, sizeof where, "XL%d, memory %s, %s", state, memory, events[i]);
-		link_cell(state, memory, events[i], expected);
+		link_cell(state, memory, events[i], elsewhere, expected);
 		same(where, expected, field(at));
+		same_event(where, expected, &s, events[i], &table_frames);
 	}
 	for (size_t i = 0; i < sizeof odds / sizeof *odds; i++) {
 		odds[i].met += odds[i].state == state && strcmp(odds[i].memory, memory) == 0 && link_keeps_rules(state, memory);
 	}
+}
+
+/* The OPEN of a crossing, by its number below. */
+static struct sonerwal_open crossing_open(uint16_t tag, int priority, int back, int rate)
+{
+	static const struct {
+		uint16_t awt;
+		uint64_t source;
+	} by[] = {{99, 1001}, {100, 999}, {100, 1000}, {100, 1001}, {101, 999}};
+	struct sonerwal_open open = {LISTED, .tag = tag, .awt = by[priority].awt, .source = by[priority].source};
+	open.destination = back ? 1000 : 4000;
+	open.rate = (uint8_t)rate;
+	return open;
 }
 
 /*
@@ -111,6 +166,33 @@ static void compare_crossing(char **at)
 	snprintf(where, sizeof where, "crossing OPEN %d, back %d, rate %d, AIP %c", priority, back, rate, seen);
 	same(where, in6, field(at));
 	same(where, in5, field(at));
+	struct frames frames = {table_frames.held, crossing_open(3, priority, back, rate), crossing_open(2, priority, back, rate)};
+	char memory6[] = {'h', '-', seen, '0', '0', '0', '\0'}, memory5[] = {'h', 'o', seen, '0', '0', '0', '\0'};
+	struct sonerwal_link s6 = link_of(6, memory6, &frames, COUNT), s5 = link_of(5, memory5, &frames, COUNT);
+	same_event(where, in6, &s6, "OPEN", &frames);
+	same_event(where, in5, &s5, "Sent", &frames);
+}
+
+/* A frame of rate 11 beside each event that takes one and beside one that takes none; bytes that the reader refuses; links that hold and
+ * remember such a frame. */
+static void refuse(const char *where, const char *disabled, int state, int there)
+{
+	static const uint8_t zeros[SONERWAL_OPEN_SIZE];
+	struct sonerwal_link s = link_of(state, there ? "h--000" : "---000", &table_frames, COUNT);
+	struct frames unlisted = table_frames;
+	unlisted.event.rate = 11;
+	same_event(where, "2", &s, "OPEN", &unlisted);
+	same_event(where, "2", &s, "SendOpen", &unlisted);
+	same_event(where, "2", &s, "BackoffReversePath", &unlisted);
+	same_event(where, disabled, &s, "Disable", &unlisted);
+	same_received(where, "1", &s, zeros, sizeof zeros - 1);
+	same_received(where, "2", &s, zeros, sizeof zeros);
+	s = link_of(state, "ho-000", &table_frames, COUNT);
+	s.heard.rate = 11;
+	same_event(where, "3", &s, "Disable", &table_frames);
+	s = link_of(state, "h--000", &table_frames, COUNT);
+	s.held.rate = 11;
+	same_event(where, "3", &s, "Disable", &table_frames);
 }
 
 /* 01 XL.4 01 XL.6 01 REFUSAL.11: the lowest number first, in every state; and a frame held or remembered with a field off OPEN's */
@@ -128,6 +210,7 @@ static void compare_refused(char **at)
 	same(where, "2", field(at));
 	same(where, "3", field(at));
 	same(where, "3", field(at));
+	refuse(where, disabled, state, there);
 }
 
 /* 01 XL.2 */
@@ -138,6 +221,10 @@ static void compare_count(char **at)
 	snprintf(where, sizeof where, "the count after %llu", before);
 	snprintf(expected, sizeof expected, "%llu", before < 4294967295ull ? before + 1 : before);
 	same(where, expected, field(at));
+	struct sonerwal_link s = link_of(0, "---000", &table_frames, (uint32_t)before);
+	struct sonerwal_link_step step = sonerwal_link_event(s, event_named("CLOSE"), table_frames.event);
+	calls++;
+	check(step.answer == SONERWAL_OK && step.state.unexpected == strtoull(expected, NULL, 10), "%s: sonerwal_link_event()", where);
 }
 
 int main(void)
@@ -176,6 +263,6 @@ int main(void)
 	for (size_t i = 0; i < sizeof odds / sizeof *odds; i++) {
 		check(odds[i].met == 1, "%s was not met", odds[i].what);
 	}
-	printf("xl: %lu cells compared\n", cells);
+	printf("xl: %lu cells and %lu calls compared\n", cells, calls);
 	return check_end("xl");
 }

@@ -3,8 +3,8 @@
 #include <stdio.h>
 #include <string.h>
 
-/* What a row asks of the memory. */
-enum when { ALWAYS, WITH_BREAK, WITH_OPEN, WITH_CLOSE, WITHOUT_CLOSE, WITH_BLOCKED };
+/* What a row asks of the memory and of what crosses. */
+enum when { ALWAYS, WITH_BREAK, WITH_OPEN, WITH_OPEN_STANDING, WITH_OPEN_BACK, STANDING, BACK, WITH_CLOSE, WITHOUT_CLOSE, WITH_BLOCKED };
 
 /* What a row puts into the memory; k is the event's kind. */
 enum keep { KEEP, HOLD_EVENT, HOLD_REMEMBERED, REMEMBER_OPEN, REMEMBER_AIP, REMEMBER_BREAK, REMEMBER_CLOSE, REMEMBER_BLOCKED, REMEMBER_UNBLOCKED, FORGET };
@@ -22,10 +22,9 @@ struct row {
 
 /*
  * 01 XL.1 01 XL.2 01 XL.3 01 XL.5 01 XL.7 01 XL.8 01 XL.9 01 XL.11 01 XL.12 01 XL.13 01 XL.14 01 XL.15 01 XL.16 01 XL.17 01 XL.18
- * 01 XL.19 01 XL.20 01 XL.21 01 XL.22 01 XL.23 01 XL.24 01 XL.25 01 XL.26 01 XL.27 01 XL.28 01 XL.29 01 XL.30 01 XL.33 01 XL.34
- * 01 XL.35 01 XL.36 01 XL.37 01 XL.38
- * Of rows for one state and event the first that fits counts; an event that no row of its state names is unexpected. In these
- * cells an OPEN is of higher priority than the frame transmitted, and for another path.
+ * 01 XL.19 01 XL.20 01 XL.21 01 XL.22 01 XL.23 01 XL.24 01 XL.25 01 XL.26 01 XL.27 01 XL.28 01 XL.29 01 XL.30 01 XL.31 01 XL.32
+ * 01 XL.33 01 XL.34 01 XL.35 01 XL.36 01 XL.37 01 XL.38
+ * Of rows for one state and event the first that fits counts; an event that no row of its state names is unexpected.
  */
 static const struct row rows[] = {
 	{0, "OPEN", ALWAYS, 1, HOLD_EVENT, "RequestPath,AIP(0)"},
@@ -61,12 +60,16 @@ static const struct row rows[] = {
 	{5, "OPEN", ALWAYS, STAY, REMEMBER_OPEN, ""},
 	{5, "BREAK", ALWAYS, STAY, REMEMBER_BREAK, ""},
 	{5, "Sent", WITH_BREAK, 9, FORGET, "ArbStatus(3),SendBreak,BREAK"},
+	{5, "Sent", WITH_OPEN_STANDING, 6, FORGET, "ArbStatus(3)"},
+	{5, "Sent", WITH_OPEN_BACK, 2, HOLD_REMEMBERED, "ArbStatus(3),BackoffReversePath"},
 	{5, "Sent", WITH_OPEN, 1, HOLD_REMEMBERED, "ArbStatus(3),BackoffRetry,RequestPath,AIP(0)"},
 	{5, "Sent", ALWAYS, 6, FORGET, "ArbStatus(3)"},
 
 	{6, "OPEN_ACCEPT", ALWAYS, 7, KEEP, "OpenAccept"},
 	{6, "OPEN_REJECT(", ALWAYS, 0, KEEP, "OpenReject(k)"},
 	{6, "AIP(", ALWAYS, STAY, REMEMBER_AIP, "ArbStatus(k)"},
+	{6, "OPEN", STANDING, STAY, KEEP, ""},
+	{6, "OPEN", BACK, 2, HOLD_EVENT, "BackoffReversePath"},
 	{6, "OPEN", ALWAYS, 1, HOLD_EVENT, "BackoffRetry,RequestPath,AIP(0)"},
 	{6, "BREAK", ALWAYS, 9, KEEP, "SendBreak,BREAK"},
 	{6, "SendBreak", ALWAYS, 10, KEEP, "BREAK"},
@@ -95,7 +98,13 @@ static const char *const cleared_by[STATES] = {
 	[5] = "k--0kk",
 };
 
-static bool fits(const struct row *row, int state, const char *event, const char *memory)
+/* Whether the frame transmitted stands against an OPEN. */
+static bool stands(const char *memory, struct crossing crossing)
+{
+	return memory[AIP] == '-' && !crossing.higher;
+}
+
+static bool fits(const struct row *row, int state, const char *event, const char *memory, struct crossing crossing)
 {
 	size_t length = strlen(row->event);
 	bool same = row->event[length - 1] == '(' ? strncmp(row->event, event, length) == 0 : strcmp(row->event, event) == 0;
@@ -107,6 +116,14 @@ static bool fits(const struct row *row, int state, const char *event, const char
 		return memory[BROKE] == '1';
 	case WITH_OPEN:
 		return memory[HEARD] != '-';
+	case WITH_OPEN_STANDING:
+		return memory[HEARD] != '-' && stands(memory, crossing);
+	case WITH_OPEN_BACK:
+		return memory[HEARD] != '-' && crossing.back;
+	case STANDING:
+		return stands(memory, crossing);
+	case BACK:
+		return crossing.back;
 	case WITH_CLOSE:
 		return memory[CLOSED] == '1';
 	case WITHOUT_CLOSE:
@@ -187,7 +204,7 @@ bool link_keeps_rules(int state, const char *memory)
 	return state < 1 || state > 6 || memory[HELD] != '-';
 }
 
-void link_cell(int state, const char *memory, const char *event, char *out)
+void link_cell(int state, const char *memory, const char *event, struct crossing crossing, char *out)
 {
 	char after[SIGNS + 1];
 	const char *open = strchr(event, '(');
@@ -202,7 +219,7 @@ void link_cell(int state, const char *memory, const char *event, char *out)
 		return;
 	}
 	for (size_t i = 0; i < sizeof rows / sizeof *rows; i++) {
-		if (fits(&rows[i], state, event, memory)) {
+		if (fits(&rows[i], state, event, memory, crossing)) {
 			remember(&rows[i], kind, after);
 			if (rows[i].to != STAY) {
 				enter(rows[i].to, after);

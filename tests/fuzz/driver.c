@@ -1,5 +1,6 @@
 /*
- * Drives the fuzz target where libFuzzer can't be had: inputs that are noise, and frames that begin well with a few bytes off.
+ * Drives the fuzz target where libFuzzer can't be had: inputs that are noise, frames that begin well with a few bytes off, and calls that
+ * a transfer or a link takes.
  *
  * usage: driver RUNS
  */
@@ -23,23 +24,82 @@ static uint64_t below(uint64_t n)
 	return seed % n;
 }
 
-static size_t make(uint8_t *bytes)
+static void spoil(uint8_t *bytes)
+{
+	for (uint64_t off = below(3); off > 0; off--) {
+		bytes[1 + below(28)] ^= (uint8_t)(1u << below(8));
+	}
+}
+
+static size_t length(void)
+{
+	return below(3) ? 29 + 4 * below(260) : below(LONGEST);
+}
+
+static size_t make_open(uint8_t *bytes)
 {
 	static const uint8_t open[] = {0, 0x91, 0x08};
+	memcpy(bytes, open, sizeof open);
+	spoil(bytes);
+	return below(8) ? 29 : length();
+}
+
+static size_t make_data(uint8_t *bytes)
+{
 	static const uint8_t data[] = {2, 1, 0, 0, 0, 0, 0, 0, 0, 0, 0, 0, 0, 0, 0, 0, 0, 0, 0, 0xFF, 0xFF};
-	size_t len = below(3) ? 29 + 4 * below(260) : below(LONGEST);
-	uint64_t kind = below(6);
+	memset(bytes, 0, LONGEST);
+	memcpy(bytes, data, sizeof data);
+	spoil(bytes);
+	return length();
+}
+
+/* START for some hundred bytes in frames of 4 with few resends, and calls; START and next-frame are 7 and 8, and rare. */
+static size_t make_transfer(uint8_t *bytes)
+{
+	static const uint8_t transfer[] = {4, 0, 7, 0, 0, 0, 0, 0, 0, 1, 0, 0, 4, 0, 3};
+	size_t len = sizeof transfer + below(200);
+	memcpy(bytes, transfer, sizeof transfer);
+	for (size_t i = sizeof transfer; i < len; i++) {
+		bytes[i] = (uint8_t)(below(4) ? below(2) : below(8) ? below(5) : below(256));
+	}
+	return len;
+}
+
+/* A link in XL0, and events that mostly have a name; a frame beside one has OPEN's fields. */
+static size_t make_link(uint8_t *bytes)
+{
+	static const uint8_t kinds[] = {1, 2, 3, 4, 5, 6, 16, 17, 18, 19, 20, 21, 22, 23, 32, 33, 34, 35, 48, 49, 50, 51, 63, 0};
+	size_t at = 0;
+	bytes[at++] = 5;
+	bytes[at++] = 0;
+	while (at < 900) {
+		uint8_t kind = kinds[below(sizeof kinds)];
+		bytes[at++] = kind;
+		bytes[at++] = (uint8_t)(kind == 3 || kind == 4 || kind == 19 || kind == 21 || kind == 34 || kind == 35 ? below(4) : 0);
+		if (kind == 1 || kind == 16 || kind == 23) {
+			memset(bytes + at, (int)below(3), 26);
+			bytes[at + 26] = (uint8_t)below(2);
+			bytes[at + 27] = (uint8_t)below(3);
+			bytes[at + 28] = (uint8_t)below(16);
+			bytes[at + 29] = (uint8_t)(8 + below(3));
+			at += 32;
+		}
+	}
+	return at;
+}
+
+static size_t make(uint8_t *bytes)
+{
 	for (size_t i = 0; i < LONGEST; i++) {
-		bytes[i] = kind == 1 ? 0 : (uint8_t)below(256);
+		bytes[i] = (uint8_t)below(256);
 	}
-	if (kind == 0) {
-		memcpy(bytes, open, sizeof open);
-		len = below(8) ? 29 : len;
-	} else if (kind == 1) {
-		memcpy(bytes, data, sizeof data);
-	}
-	for (uint64_t off = below(3); kind < 2 && off > 0; off--) {
-		bytes[1 + below(28)] ^= (uint8_t)(1u << below(8));
+	size_t len = length();
+	switch (below(8)) {
+	case 0: len = make_open(bytes); break;
+	case 1: len = make_data(bytes); break;
+	case 2: len = make_transfer(bytes); break;
+	case 3: len = make_link(bytes); break;
+	default: break;
 	}
 	return len < LONGEST ? len : LONGEST;
 }

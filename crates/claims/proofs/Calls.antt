@@ -18,14 +18,18 @@ use Rattle.ssp_frame.proofs.data.read_data.Kinds as read-data-of
 use Rattle.ssp_frame.proofs.data.read_data.Reads as read-data
 use Rattle.ssp_frame.proofs.data.write_data.Kinds as write-data-of
 use Rattle.ssp_frame.proofs.data.write_data.Reads as write-data
-use Rattle.sonerwal.proofs.sas_open_read.Kinds as sas-open-read-of
-use Rattle.sonerwal.proofs.sas_open_read.Reads as sas-open-read
-use Rattle.sonerwal.proofs.sas_open_write.Kinds as sas-open-write-of
-use Rattle.sonerwal.proofs.sas_open_write.Reads as sas-open-write
-use Rattle.sonerwal.proofs.sas_data_read.Kinds as sas-data-read-of
-use Rattle.sonerwal.proofs.sas_data_read.Reads as sas-data-read
-use Rattle.sonerwal.proofs.sas_data_write.Kinds as sas-data-write-of
-use Rattle.sonerwal.proofs.sas_data_write.Reads as sas-data-write
+use Rattle.sonerwal.proofs.frames.sonerwal_open_read.Kinds as sonerwal-open-read-of
+use Rattle.sonerwal.proofs.frames.sonerwal_open_read.Reads as sonerwal-open-read
+use Rattle.sonerwal.proofs.frames.sonerwal_open_write.Kinds as sonerwal-open-write-of
+use Rattle.sonerwal.proofs.frames.sonerwal_open_write.Reads as sonerwal-open-write
+use Rattle.sonerwal.proofs.frames.sonerwal_data_read.Kinds as sonerwal-data-read-of
+use Rattle.sonerwal.proofs.frames.sonerwal_data_read.Reads as sonerwal-data-read
+use Rattle.sonerwal.proofs.frames.sonerwal_data_write.Kinds as sonerwal-data-write-of
+use Rattle.sonerwal.proofs.frames.sonerwal_data_write.Reads as sonerwal-data-write
+use Rattle.sonerwal.proofs.frames.sonerwal_wait_value.Kinds as sonerwal-wait-value-of
+use Rattle.sonerwal.proofs.frames.sonerwal_wait_value.Reads as sonerwal-wait-value
+use Rattle.sonerwal.proofs.frames.sonerwal_open_higher.Kinds as sonerwal-open-higher-of
+use Rattle.sonerwal.proofs.frames.sonerwal_open_higher.Reads as sonerwal-open-higher
 use Rattle.transfer.proofs.Transfer.start.Kinds as start-of
 use Rattle.transfer.proofs.Transfer.start.Reads as start
 use Rattle.transfer.proofs.Transfer.frame.Kinds as frame-of
@@ -99,17 +103,23 @@ ReadData = Outcome 1 read-data-of.ps read-data-of.r read-data.Post
 abbrev pub WriteData : Type 0
 WriteData = Outcome 2 write-data-of.ps write-data-of.r write-data.Post
 
-abbrev pub SasOpenRead : Type 0
-SasOpenRead = Outcome 10 sas-open-read-of.ps sas-open-read-of.r sas-open-read.Post
+abbrev pub FaceOpenRead : Type 0
+FaceOpenRead = Outcome 10 sonerwal-open-read-of.ps sonerwal-open-read-of.r sonerwal-open-read.Post
 
-abbrev pub SasOpenWrite : Type 0
-SasOpenWrite = Outcome 1 sas-open-write-of.ps sas-open-write-of.r sas-open-write.Post
+abbrev pub FaceOpenWrite : Type 0
+FaceOpenWrite = Outcome 1 sonerwal-open-write-of.ps sonerwal-open-write-of.r sonerwal-open-write.Post
 
-abbrev pub SasDataRead : Type 0
-SasDataRead = Outcome 7 sas-data-read-of.ps sas-data-read-of.r sas-data-read.Post
+abbrev pub FaceDataRead : Type 0
+FaceDataRead = Outcome 7 sonerwal-data-read-of.ps sonerwal-data-read-of.r sonerwal-data-read.Post
 
-abbrev pub SasDataWrite : Type 0
-SasDataWrite = Outcome 2 sas-data-write-of.ps sas-data-write-of.r sas-data-write.Post
+abbrev pub FaceDataWrite : Type 0
+FaceDataWrite = Outcome 2 sonerwal-data-write-of.ps sonerwal-data-write-of.r sonerwal-data-write.Post
+
+abbrev pub FaceWaitValue : Type 0
+FaceWaitValue = Outcome 0 sonerwal-wait-value-of.ps sonerwal-wait-value-of.r sonerwal-wait-value.Post
+
+abbrev pub FaceOpenHigher : Type 0
+FaceOpenHigher = Outcome 0 sonerwal-open-higher-of.ps sonerwal-open-higher-of.r sonerwal-open-higher.Post
 
 abbrev pub Start : Type 0
 Start = Outcome 0 start-of.ps start-of.r start.Post

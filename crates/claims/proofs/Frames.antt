@@ -29,7 +29,7 @@ use Rattle.sonerwal.proofs.Laid.{open-found, data-found, nine, six}
 use Rattle.sonerwal.proofs.Laid as laid
 use Rattle.sonerwal.proofs.Laws.{open-finds, data-finds, writes, done-writing, written}
 use Rattle.claims.specs.Causes.{Bytes, Wide}
-use Rattle.claims.proofs.Calls.{ReadOpen, WriteOpen, ReadData, WriteData, SasOpenRead, SasOpenWrite, SasDataRead, SasDataWrite}
+use Rattle.claims.proofs.Calls.{ReadOpen, WriteOpen, ReadData, WriteData, FaceOpenRead, FaceOpenWrite, FaceDataRead, FaceDataWrite}
 use Rattle.claims.proofs.Named.{behind3, open-of, head-of, open-read, open-write, data-read, data-write, open-given, open-left, data-given, data-left, c-open-read, c-open-write, c-data-read, c-data-write}
 
 -- the round trips over the definitions, for any answer and bytes that a writer's promise admits
@@ -80,13 +80,13 @@ pub record Frames : Type 0 where
   pub data-read-written : (d : ReadData) (c : WriteData) (f : DataFrame) → let r = data-read d in let w = data-write c in Bytes (r .frame) → r .answer ≡ Data f → w .given .head ≡ f .head → w .given .body ≡ take (f .length) (drop 24 (r .frame)) → length (w .lent) ≡ length (r .frame) → (w .answer ≡ Done) × (w .left ≡ r .frame)
   -- 01 DATA.5
   -- the same through C's calls, each number at its own place
-  pub c-open-laid : (c : SasOpenWrite) → let w = c-open-write c in open-given c ≡ openNumbers → length (w .lent) ≡ 28 → (w .answer ≡ 0) × (w .left ≡ openTyped)
-  pub c-open-found : (c : SasOpenRead) → let r = c-open-read c in r .frame ≡ openTyped → (r .answer ≡ 0) × (open-left c ≡ openNumbers)
-  pub c-data-laid : (c : SasDataWrite) → let w = c-data-write c in data-given c ≡ dataNumbers → w .given .body ≡ dataBody → 32 ≤ length (w .lent) → (w .answer ≡ 0) × (w .left ≡ dataTyped ++ drop 32 (w .lent))
-  pub c-data-found : (c : SasDataRead) → let r = c-data-read c in r .frame ≡ dataTyped → (r .answer ≡ 0) × (data-left c ≡ dataNumbers ++ (length dataBody ∷ []))
+  pub c-open-laid : (c : FaceOpenWrite) → let w = c-open-write c in open-given c ≡ openNumbers → length (w .lent) ≡ 28 → (w .answer ≡ 0) × (w .left ≡ openTyped)
+  pub c-open-found : (c : FaceOpenRead) → let r = c-open-read c in r .frame ≡ openTyped → (r .answer ≡ 0) × (open-left c ≡ openNumbers)
+  pub c-data-laid : (c : FaceDataWrite) → let w = c-data-write c in data-given c ≡ dataNumbers → w .given .body ≡ dataBody → 32 ≤ length (w .lent) → (w .answer ≡ 0) × (w .left ≡ dataTyped ++ drop 32 (w .lent))
+  pub c-data-found : (c : FaceDataRead) → let r = c-data-read c in r .frame ≡ dataTyped → (r .answer ≡ 0) × (data-left c ≡ dataNumbers ++ (length dataBody ∷ []))
   -- and each number that a writer was given is the one that the reader leaves at its place
-  pub c-open-back : (c : SasOpenWrite) (d : SasOpenRead) → let w = c-open-write c in let r = c-open-read d in Wide (1 ∷ 1 ∷ 1 ∷ 1 ∷ 2 ∷ 8 ∷ 8 ∷ 1 ∷ 2 ∷ []) (open-given c) → w .answer ≡ 0 → r .frame ≡ w .left → (r .answer ≡ 0) × (open-left d ≡ open-given c)
-  pub c-data-back : (c : SasDataWrite) (d : SasDataRead) → let w = c-data-write c in let r = c-data-read d in let n = length (w .given .body) in Wide (4 ∷ 4 ∷ 1 ∷ 2 ∷ 4 ∷ []) (data-given c) → w .answer ≡ 0 → r .frame ≡ take (24 + (n + 3) / 4 * 4) (w .left) → (r .answer ≡ 0) × (data-left d ≡ data-given c ++ (n ∷ []))
+  pub c-open-back : (c : FaceOpenWrite) (d : FaceOpenRead) → let w = c-open-write c in let r = c-open-read d in Wide (1 ∷ 1 ∷ 1 ∷ 1 ∷ 2 ∷ 8 ∷ 8 ∷ 1 ∷ 2 ∷ []) (open-given c) → w .answer ≡ 0 → r .frame ≡ w .left → (r .answer ≡ 0) × (open-left d ≡ open-given c)
+  pub c-data-back : (c : FaceDataWrite) (d : FaceDataRead) → let w = c-data-write c in let r = c-data-read d in let n = length (w .given .body) in Wide (4 ∷ 4 ∷ 1 ∷ 2 ∷ 4 ∷ []) (data-given c) → w .answer ≡ 0 → r .frame ≡ take (24 + (n + 3) / 4 * 4) (w .left) → (r .answer ≡ 0) × (data-left d ≡ data-given c ++ (n ∷ []))
 
 -- ---- C's calls, for the numbers that they were given
 

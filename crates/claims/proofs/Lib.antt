@@ -21,6 +21,10 @@ pub mod Steps
 pub mod Text
 pub mod Times
 pub mod Total
+mod TransferCalls
+pub mod TransferFace
+pub mod TransferNumbers
+pub mod TransferRuns
 pub mod Unique
 pub mod Waits
 mod Walked

@@ -20,7 +20,7 @@ use Rattle.xl_numbers.specs.declared.states.AipRead.{AipRead}
 use Rattle.xl_numbers.specs.declared.codes.Code.{Code}
 use Rattle.xl_numbers.specs.declared.codes.EventRead.{EventRead}
 use Rattle.xl_numbers.specs.declared.codes.ActionRead.{ActionRead}
-use Rattle.xl_numbers.specs.Names.{Named}
+use Rattle.laws.specs.Names.{Named}
 use Rattle.xl_numbers.specs.Details.{waitNumber, waitOf, rejectNumber, rejectOf, denialNumber, denialOf, arbitrationNumber, arbitrationOf}
 use Rattle.xl_parts.specs.Parts.{phaseNumber}
 use Rattle.xl_numbers.specs.States.{phaseOf, aipNumber, aipOf, statusNumber}

@@ -16,7 +16,7 @@ use Rattle.send.specs.Send.{headOf}
 use Rattle.send.specs.Calls as sending
 use Rattle.runs.specs.declared.Run.{Run}
 use Rattle.sonerwal.specs.Face.{Read, Write, DataGiven, open9, data5, data6}
-use Rattle.claims.proofs.Calls.{ReadOpen, WriteOpen, ReadData, WriteData, SasOpenRead, SasOpenWrite, SasDataRead, SasDataWrite, HigherThan, Start, NextFrame, ReadNumber, Feed, Close}
+use Rattle.claims.proofs.Calls.{ReadOpen, WriteOpen, ReadData, WriteData, FaceOpenRead, FaceOpenWrite, FaceDataRead, FaceDataWrite, HigherThan, Start, NextFrame, ReadNumber, Feed, Close}
 
 -- three, six and nine of A, whatever R stands behind them
 abbrev pub first3 : {A R : Type 0} → A × (A × (A × R)) → List A
@@ -70,34 +70,34 @@ other-open c = c .args .1 .0
 -- ---- the calls from C
 
 -- the numbers that a reader was lent and left, and that a writer was given, in the order of the calls
-abbrev pub open-lent : SasOpenRead → List ℕ
+abbrev pub open-lent : FaceOpenRead → List ℕ
 open-lent c = map now (first9 (c .args .1))
 
-abbrev pub open-left : SasOpenRead → List ℕ
+abbrev pub open-left : FaceOpenRead → List ℕ
 open-left c = map now (first9 (c .exit .1))
 
-abbrev pub open-given : SasOpenWrite → List ℕ
+abbrev pub open-given : FaceOpenWrite → List ℕ
 open-given c = first9 (c .args)
 
-abbrev pub data-lent : SasDataRead → List ℕ
+abbrev pub data-lent : FaceDataRead → List ℕ
 data-lent c = map now (first6 (c .args .1))
 
-abbrev pub data-left : SasDataRead → List ℕ
+abbrev pub data-left : FaceDataRead → List ℕ
 data-left c = map now (first6 (c .exit .1))
 
-abbrev pub data-given : SasDataWrite → List ℕ
+abbrev pub data-given : FaceDataWrite → List ℕ
 data-given c = let more = behind3 (c .args) in first3 (c .args) ++ (more .0 ∷ more .1 .0 ∷ [])
 
-abbrev pub c-open-read : SasOpenRead → Read ℕ OpenFrame
+abbrev pub c-open-read : FaceOpenRead → Read ℕ OpenFrame
 c-open-read c = record { frame = now (c .args .0); lent = open-of (open-lent c); answer = c .answer; left = open-of (open-left c) }
 
-abbrev pub c-open-write : SasOpenWrite → Write ℕ OpenFrame
+abbrev pub c-open-write : FaceOpenWrite → Write ℕ OpenFrame
 c-open-write c = record { given = open-of (open-given c); lent = now (behind9 (c .args) .0); answer = c .answer; left = now (behind9 (c .exit) .0) }
 
-abbrev pub c-data-read : SasDataRead → Read ℕ DataFrame
+abbrev pub c-data-read : FaceDataRead → Read ℕ DataFrame
 c-data-read c = record { frame = now (c .args .0); lent = data-of (data-lent c); answer = c .answer; left = data-of (data-left c) }
 
-abbrev pub c-data-write : SasDataWrite → Write ℕ DataGiven
+abbrev pub c-data-write : FaceDataWrite → Write ℕ DataGiven
 c-data-write c =
     let slices = behind3 (c .args) .1 .1 in
     record { given = record { head = head-of (data-given c); body = now (slices .0) }; lent = now (slices .1 .0); answer = c .answer; left = now (behind3 (behind3 (c .exit)) .0) }

@@ -1,12 +1,14 @@
 -- Priority is a strict order on (AWT, source): the two numbers are compared one after the other, and between lists of one length
 -- the first place at which they differ decides for both sides. Assumes nothing.
-use mathlib.Core.Bool.{Bool, true, false, _&&_, _||_}
+use mathlib.Core.Bool.{Bool, true, false, true≢false, _&&_, _||_}
 use mathlib.Core.List.{List}
-use mathlib.Core.Logic.{_⊎_, inl, inr}
+use mathlib.Core.Logic.{_⊎_, inl, inr, _↔_}
 use mathlib.Core.Path.{_≡_, refl, sym, ap, subst, subst⁻¹, _∙_}
 use Prim.Native.Nat.{ℕ, _<_}
 use lib.Dec.{ltb, eqb}
 use lib.ListN.{getD}
+use native.Mathlib.Omega.{arith}
+use Rattle.laws.specs.Names.{flag}
 use Rattle.laws.specs.Tests.{Says}
 use Rattle.laws.proofs.Bools.{and-false, or-alone}
 use Rattle.laws.proofs.Order.{Compared, above, below, equal}
@@ -14,8 +16,9 @@ use Rattle.laws.proofs.Tests.{less, both, either}
 use Rattle.laws.proofs.Tests as tests
 use Rattle.open_frame.specs.Priority.{priorityOf, higherThan}
 use Rattle.open_frame.specs.declared.OpenFrame.{OpenFrame}
+use Rattle.sonerwal.specs.Face.{crossing}
 use Rattle.open_frame.proofs.Priority.{never-both, trans, one-is, neither}
-use Rattle.claims.proofs.Calls.{HigherThan}
+use Rattle.claims.proofs.Calls.{HigherThan, FaceOpenHigher}
 use Rattle.claims.proofs.Named.{one-open, other-open}
 
 -- AWT and source agree
@@ -26,6 +29,11 @@ pub record Agree (f g : OpenFrame) : Type 0 where
 -- a larger AWT, or an equal one and a larger source
 abbrev Larger : OpenFrame → OpenFrame → Type 0
 Larger f g = (g .awt .0 < f .awt .0) ⊎ ((f .awt .0 ≡ g .awt .0) × (g .head .source < f .head .source))
+
+-- C's answer of two OPENs by their AWTs and sources: 1 where the first has the larger AWT, or an equal one and the larger source, else 0
+pub record Counted (awt source waited peer answer : ℕ) : Type 0 where
+  pub one : (answer ≡ 1) ↔ ((waited < awt) ⊎ ((awt ≡ waited) × (peer < source)))
+  pub few : (answer ≡ 0) ⊎ (answer ≡ 1)
 
 -- the two calls for two crossing OPENs
 abbrev Crossing : HigherThan → HigherThan → Type 0
@@ -41,6 +49,7 @@ pub record Priority : Type 0 where
   pub one : (c d : HigherThan) → Crossing c d → (Agree (one-open c) (other-open c) → ⊥) → (c .answer ≡ true) ⊎ (d .answer ≡ true)
   pub neither : (c : HigherThan) → Agree (one-open c) (other-open c) → c .answer ≡ false
   pub transitive : (c d e : HigherThan) → other-open c ≡ one-open d → one-open c ≡ one-open e → other-open d ≡ other-open e → c .answer ≡ true → d .answer ≡ true → e .answer ≡ true
+  pub from-c : (c : FaceOpenHigher) → Counted (c .args .0) (c .args .1 .0) (c .args .1 .1 .0) (c .args .1 .1 .1 .0) (c .answer)
 
 -- the other call compares the same frames the other way round
 swapped : (c d : HigherThan) → Crossing c d → d .answer ≡ higherThan (other-open c) (one-open c)
@@ -60,8 +69,18 @@ exactly-so f g =
     (or-alone (ltb (g .head .source) (f .head .source)) (and-false (eqb (f .head .source) (g .head .source)) refl))
     (either (less (g .awt .0) (f .awt .0)) (both (tests.equal (f .awt .0) (g .awt .0)) (less (g .head .source) (f .head .source))))
 
+-- a test as a number
+counted : (t : Bool) {A : Type 0} → Says t A → ((flag t ≡ 1) ↔ A) × ((flag t ≡ 0) ⊎ (flag t ≡ 1))
+counted true s = (((λ e. s .0 refl), (λ a. refl)), inr refl)
+counted false s = (((λ e. absurd (omega arith)), (λ a. absurd (true≢false (sym (s .1 a))))), inl refl)
+
 pub priority : Priority
 priority = record {
+  from-c = λ c.
+      let f = crossing (c .args .0) (c .args .1 .0) in
+      let g = crossing (c .args .1 .1 .0) (c .args .1 .1 .1 .0) in
+      let h = counted (higherThan f g) (exactly-so f g) in
+      subst⁻¹ (λ (n : ℕ). Counted (c .args .0) (c .args .1 .0) (c .args .1 .1 .0) (c .args .1 .1 .1 .0) n) (c .met) (record { one = h .0; few = h .1 });
   exactly = λ c. subst⁻¹ (λ (t : Bool). Says t (Larger (one-open c) (other-open c))) (c .met) (exactly-so (one-open c) (other-open c));
   never = λ c d e p q. never-both (one-open c) (other-open c) (sym (c .met) ∙ p) (sym (swapped c d e) ∙ q);
   one = λ c d e off. one-of c d e off (one-is (one-open c) (other-open c));

@@ -25,7 +25,7 @@ use Rattle.ssp_frame.specs.declared.data.DataRead.{DataRead}
 use Rattle.ssp_frame.specs.declared.data.DataRead.the-variants.{Frame as Data, Refused as NotData}
 use Rattle.sonerwal.specs.Face.{Read, Write, DataGiven, OpenReads, OpenWrites, DataReads, DataWrites}
 use Rattle.claims.specs.Causes.{Answers, ReadsOpen, WritesOpen, ReadsData, WritesData}
-use Rattle.claims.proofs.Calls.{ReadOpen, WriteOpen, ReadData, WriteData, SasOpenRead, SasOpenWrite, SasDataRead, SasDataWrite}
+use Rattle.claims.proofs.Calls.{ReadOpen, WriteOpen, ReadData, WriteData, FaceOpenRead, FaceOpenWrite, FaceDataRead, FaceDataWrite}
 use Rattle.claims.proofs.Named.{open-read, open-write, data-read, data-write, c-open-read, c-open-write, c-data-read, c-data-write}
 use Rattle.claims.proofs.Grounds.{open-length, open-bytes, open-fields, data-lengths, data-fields, data-length, data-bytes}
 
@@ -95,10 +95,10 @@ pub record Refusals : Type 1 where
   pub read-data : (c : ReadData) → ReadsData NotData (Data (dataOf (data-read c .frame))) (data-read c)
   pub write-data : (c : WriteData) → WritesData NotWritten Done (data-write c)
   -- the same of C's calls, which answer the refusal's number, or 0
-  pub sas-open-read : (c : SasOpenRead) → ReadsOpen numberOf 0 (c-open-read c)
-  pub sas-open-write : (c : SasOpenWrite) → WritesOpen numberOf 0 (c-open-write c)
-  pub sas-data-read : (c : SasDataRead) → ReadsData numberOf 0 (c-data-read c)
-  pub sas-data-write : (c : SasDataWrite) → WritesData numberOf 0 (c-data-write c)
+  pub sonerwal-open-read : (c : FaceOpenRead) → ReadsOpen numberOf 0 (c-open-read c)
+  pub sonerwal-open-write : (c : FaceOpenWrite) → WritesOpen numberOf 0 (c-open-write c)
+  pub sonerwal-data-read : (c : FaceDataRead) → ReadsData numberOf 0 (c-data-read c)
+  pub sonerwal-data-write : (c : FaceDataWrite) → WritesData numberOf 0 (c-data-write c)
 
 pub refusals : Refusals
 refusals = record {
@@ -106,10 +106,10 @@ refusals = record {
   write-open = λ c. open-writes (open-write c) (c .met);
   read-data = λ c. data-answers (data-read c) (c .met);
   write-data = λ c. data-writes (data-write c) (c .met);
-  sas-open-read = λ c. c-open-reads (c-open-read c) (c .met);
-  sas-open-write = λ c. c-open-writes (c-open-write c) (c .met);
-  sas-data-read = λ c. c-data-reads (c-data-read c) (c .met);
-  sas-data-write = λ c. c-data-writes (c-data-write c) (c .met);
+  sonerwal-open-read = λ c. c-open-reads (c-open-read c) (c .met);
+  sonerwal-open-write = λ c. c-open-writes (c-open-write c) (c .met);
+  sonerwal-data-read = λ c. c-data-reads (c-data-read c) (c .met);
+  sonerwal-data-write = λ c. c-data-writes (c-data-write c) (c .met);
 }
 
 -- 01 REFUSAL.1 01 REFUSAL.2 01 REFUSAL.3 01 REFUSAL.4 01 REFUSAL.5 01 REFUSAL.6 01 REFUSAL.7 01 REFUSAL.8 01 REFUSAL.9 01 REFUSAL.10

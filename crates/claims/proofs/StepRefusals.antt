@@ -62,7 +62,7 @@ module _ (s : Transfer) (h : DataHead) (body out : List ℕ) where
   unfolding nextBytes
   bytes-are = λ i. refuse (λ _. out) (nextCauses limit s h body out) (dataLeft h body out)
 
-  next-refused : {r : Stepped} {after : List ℕ} → Went limit s h body out r after → Next s (record { given = record { head = h; body = body }; lent = out; answer = r; left = after })
+  pub next-refused : {r : Stepped} {after : List ℕ} → Went limit s h body out r after → Next s (record { given = record { head = h; body = body }; lent = out; answer = r; left = after })
   next-refused {r} {after} p =
       let answer : r .answer ≡ refuse Answer.Refused (nextCauses limit s h body out) Answer.Sent = ap (λ (st : Stepped). st .answer) (p .step) ∙ answer-is in
       record {

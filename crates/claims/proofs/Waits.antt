@@ -6,7 +6,7 @@ use mathlib.Core.Path.{_≡_, ap, sym, _∙_, subst⁻¹}
 use native.Mathlib.Omega.{arith}
 use Rattle.open_frame.specs.Wait.{waitOf}
 use Rattle.open_frame.proofs.Wait.{itself, first, thousand, grows, top}
-use Rattle.claims.proofs.Calls.{WaitValue}
+use Rattle.claims.proofs.Calls.{WaitValue, FaceWaitValue}
 
 -- the microseconds of a call, and the value that it answers
 abbrev elapsed : WaitValue → ℕ
@@ -27,6 +27,8 @@ pub record Waits : Type 0 where
   pub top : (c : WaitValue) → (value c ≡ 65535) ↔ (32799768 ≤ elapsed c)
   -- and a longer wait never has a smaller value
   pub grows : (c d : WaitValue) → elapsed c ≤ elapsed d → value c ≤ value d
+  -- C is answered the same number
+  pub from-c : (c : WaitValue) (d : FaceWaitValue) → d .args .0 ≡ elapsed c → d .answer ≡ value c
 
 -- by the promise
 is : (c : WaitValue) → value c ≡ waitOf (elapsed c)
@@ -42,5 +44,6 @@ waits = record {
       ∙ thousand (elapsed c) h (subst⁻¹ (λ (n : ℕ). n < 65535) (sym (is c)) l)
       ∙ ap (λ (n : ℕ). n + 1) (sym (is c));
   top = λ c. subst⁻¹ (λ (n : ℕ). (n ≡ 65535) ↔ (32799768 ≤ elapsed c)) (is c) (top (elapsed c));
+  from-c = λ c d e. d .met ∙ ap waitOf e ∙ sym (is c);
   grows = λ c d h. let g = grows (elapsed c) (elapsed d) h in omega (arith, is c, is d);
 }

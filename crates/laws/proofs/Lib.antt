@@ -9,3 +9,5 @@ pub mod Tests
 pub mod Folds
 pub mod Finds
 pub mod Maps
+pub mod Places
+pub mod Names

@@ -3,3 +3,4 @@ pub mod Order
 pub mod Sets
 pub mod Folds
 pub mod Tests
+pub mod Names

@@ -70,7 +70,7 @@ module _ (bound : ℕ) (s : Transfer) where
         (λ k e. impossible (sym e)) destination source tag body out typed
 
   -- refusal 3
-  three-either : keepsRules bound s ≡ true → (c : Call) → (stepOf bound c s .answer ≡ Answer.Refused Refusal.Rules) ↔ OutOfRange (plainOf c)
+  pub three-either : keepsRules bound s ≡ true → (c : Call) → (stepOf bound c s .answer ≡ Answer.Refused Refusal.Rules) ↔ OutOfRange (plainOf c)
   unfolding nextStep
   three-either good (plain c) = three bound s good c
   three-either good (next destination source tag body out) =

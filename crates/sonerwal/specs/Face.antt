@@ -4,15 +4,21 @@ use mathlib.Core.List.{List}
 use Prim.Native.Nat.{ℕ}
 use denote.Ref.{RefT, now}
 use denote.Triple.Both.{Both}
+use Rattle.laws.specs.Names.{flag}
 use Rattle.refusals.specs.Refusals.{numberOf}
 use Rattle.refusals.specs.Causes.{Cause, refuse}
 use Rattle.open_frame.specs.Open.{frameOf, openBytes, readCauses as openReads, writeCauses as openWrites}
+use Rattle.open_frame.specs.Priority.{higherThan}
 use Rattle.open_frame.specs.declared.OpenFrame.{OpenFrame}
 use Rattle.ssp_frame.specs.Data.{dataOf, dataLeft, readCauses as dataReads, writeCauses as dataWrites}
 use Rattle.ssp_frame.specs.declared.data.DataHead.{DataHead}
 use Rattle.ssp_frame.specs.declared.data.DataFrame.{DataFrame}
 
 -- ---- numbers in the order of include/sonerwal.h
+
+-- 0.2.0
+abbrev pub version : ℕ
+version = 200
 
 -- nine as an OPEN frame
 abbrev pub open9 : ℕ → ℕ → ℕ → ℕ → ℕ → ℕ → ℕ → ℕ → ℕ → OpenFrame
@@ -98,3 +104,14 @@ DataReads c = Called (dataReads (c .frame)) (dataOf (c .frame)) (c .lent) (c .an
 
 abbrev pub DataWrites : Write ℕ DataGiven → Type 0
 DataWrites c = Called (dataWrites (c .given .head) (c .given .body) (c .lent)) (dataLeft (c .given .head) (c .given .body) (c .lent)) (c .lent) (c .answer) (c .left)
+
+-- ---- priority
+
+-- an OPEN of which nothing counts but what priority looks at
+abbrev pub crossing : ℕ → ℕ → OpenFrame
+crossing awt source = open9 0 0 0 0 0 0 source 0 awt
+
+-- 01 OPEN.9
+-- 1 if the first of two OPENs, by AWT and source, is of higher priority, else 0
+abbrev pub openHigher : ℕ → ℕ → ℕ → ℕ → ℕ
+openHigher awt source waited peer = flag (higherThan (crossing awt source) (crossing waited peer))

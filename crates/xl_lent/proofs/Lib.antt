@@ -1,2 +1,4 @@
 -- The laws of a lent link, and of what C sees of its calls.
+pub mod Says
+pub mod Trips
 pub mod Laws

@@ -2,6 +2,7 @@
 use Prim.Native.Nat.{ℕ}
 use mathlib.Core.Bool.{Bool, cond, _&&_}
 use lib.Dec.{eqb, ltb}
+use Rattle.laws.specs.Names.{flag}
 use Rattle.open_lent.specs.Lent as frames
 use Rattle.open_lent.specs.declared.Open.{Open}
 use Rattle.xl_parts.specs.declared.Phase.{Phase}
@@ -13,7 +14,7 @@ use Rattle.xl_parts.specs.Parts.{phaseNumber}
 use Rattle.xl_numbers.specs.declared.states.PhaseRead.{PhaseRead}
 use Rattle.xl_numbers.specs.declared.states.AipRead.{AipRead}
 use Rattle.xl_numbers.specs.States.{phaseOf, aipNumber, aipOf}
-use Rattle.xl_numbers.specs.Codes.{coded as numbered, flag, actionNumber}
+use Rattle.xl_numbers.specs.Codes.{coded as numbered, actionNumber}
 use Rattle.xl_lent.specs.declared.Link.{Link}
 use Rattle.xl_lent.specs.declared.Codes.{Codes}
 

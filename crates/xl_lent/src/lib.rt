@@ -1,6 +1,6 @@
 // An expander link as C lends it: numbers alone, no padding, and what is left over of its bytes has a name and is zero.
 ghost use mathlib.Core.Path.{_≡_};
-ghost use Rattle.xl_numbers.specs.Codes as numbers;
+ghost use Rattle.laws.specs.Names as names;
 ghost use Rattle.xl_lent.specs.Lent as lent;
 ghost use Rattle.xl_lent.specs.Lent.{phaseIn, aipIn, heldOf, stateOf, heldNumber, frameShown, wellHeld};
 ghost use Rattle.xl_lent.specs.Face as face;
@@ -119,7 +119,7 @@ fn state_of(l: Link) -> State
 }
 
 fn flag(t: bool) -> u8
-    ensures { λ r. ⌜ r ≡ numbers.flag t ⌝ }
+    ensures { λ r. ⌜ r ≡ names.flag t ⌝ }
 {
     if t { 1 } else { 0 }
 }

@@ -7,7 +7,9 @@ use mathlib.Core.Path.{_≡_, refl, sym, ap, _∙_}
 use native.Mathlib.Omega.{arith}
 use lib.Dec.{eqb, ltb}
 use borrow.Author.Tests.{ltb-true, ltb-false, eqb-true, eqb-false, lt-ltb}
+use Rattle.laws.specs.Names.{Named, flag}
 use Rattle.laws.proofs.Bools.{by-test, and-left, and-right}
+use Rattle.laws.proofs.Places.{Each, each-at}
 use Rattle.xl_parts.specs.declared.Primitive.{Primitive}
 use Rattle.xl_parts.specs.declared.Message.{Message}
 use Rattle.xl_parts.specs.declared.Confirmation.{Confirmation}
@@ -20,9 +22,7 @@ use Rattle.xl_parts.specs.declared.Action.{Action}
 use Rattle.xl_numbers.specs.declared.codes.Code.{Code}
 use Rattle.xl_numbers.specs.declared.codes.EventRead.{EventRead}
 use Rattle.xl_numbers.specs.declared.codes.ActionRead.{ActionRead}
-use Rattle.xl_numbers.specs.Names.{Named}
-use Rattle.xl_numbers.specs.Codes.{coded, primitiveNumber, messageNumber, eventNumber, upTo, lineEvents, routerEvents, managerEvents, ownEvents, fromLine, fromRouter, fromManager, own, eventOf, said, flag, actionNumber, heard, actionOf}
-use Rattle.xl_numbers.proofs.Lists.{Each, each-at}
+use Rattle.xl_numbers.specs.Codes.{coded, primitiveNumber, messageNumber, eventNumber, upTo, lineEvents, routerEvents, managerEvents, ownEvents, fromLine, fromRouter, fromManager, own, eventOf, said, actionNumber, heard, actionOf}
 use Rattle.xl_numbers.proofs.KindTrips.{wait-back, wait-at, reject-back, reject-at, denial-back, denial-at, arbitration-back, arbitration-at}
 
 -- the code is that of whatever event is named

@@ -1,26 +1,17 @@
 -- Each kind's number is its place in the list, so a number below the list's length names the kind whose number it is. Assumes nothing.
 use Prim.Native.Nat.{ℕ, _<_}
-use mathlib.Core.List.{List}
-use mathlib.Core.Path.{_≡_, refl, sym, ap, _∙_}
+use mathlib.Core.Path.{_≡_, refl}
 use native.Mathlib.Omega.{arith}
-use lib.ListN.{length, getD}
+use Rattle.laws.specs.Names.{Named}
+use Rattle.laws.proofs.Names.{numbered, in-list}
+use Rattle.laws.proofs.Places.{Each}
 use Rattle.xl_parts.specs.declared.Wait.{Wait}
 use Rattle.xl_parts.specs.declared.Wait.the-variants.{Normal, Partial, Connection, Device}
 use Rattle.xl_parts.specs.declared.Reject.{Reject}
 use Rattle.xl_parts.specs.declared.Denial.{Denial}
 use Rattle.xl_parts.specs.declared.Arbitration.{Arbitration}
 use Rattle.xl_parts.specs.declared.Arbitration.the-variants.{WaitingOnPartial, BlockedOnPartial, WaitingOnConnection}
-use Rattle.xl_numbers.specs.Names.{Named}
 use Rattle.xl_numbers.specs.Details.{waitNumber, waits, waitOf, rejectNumber, rejects, rejectOf, denialNumber, denials, denialOf, arbitrationNumber, arbitrations, arbitrationOf}
-use Rattle.xl_numbers.proofs.Lists.{Each, each-within}
-
--- a list in the order of its members' numbers
-module _ {A : Type 0} (number : A → ℕ) (xs : List A) (d : A) (placed : Each (λ (n : ℕ) (a : A). n ≡ number a) 0 xs) where
-  pub numbered : (n : ℕ) → n < length xs → n ≡ number (getD xs n d)
-  numbered n l = each-within (λ (n : ℕ) (a : A). n ≡ number a) d 0 xs placed n n (omega arith) l
-
-  pub in-list : ((a : A) → (number a < length xs) × (getD xs (number a) d ≡ a)) → Named (λ (n : ℕ) (a : A). (n < length xs) × (getD xs n d ≡ a)) number
-  in-list back n a = ((λ h. numbered n (h .0) ∙ ap number (h .1)), (λ e. rw e (back a)))
 
 pub wait-back : (w : Wait) → (waitNumber w < 4) × (waitOf (waitNumber w) ≡ w)
 wait-back Normal = (omega arith, refl)

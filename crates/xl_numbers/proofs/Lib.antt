@@ -1,5 +1,4 @@
 -- The laws of the numbers.
-pub mod Lists
 pub mod KindTrips
 pub mod StateTrips
 pub mod CodeTrips

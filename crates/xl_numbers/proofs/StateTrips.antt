@@ -1,11 +1,13 @@
 -- Each value's number is its place in the list, whose members name one value each; a refusal's number is below every other status's.
 -- Assumes nothing.
 use Prim.Native.Nat.{ℕ, _-_, _≤_}
-use mathlib.Core.List.{List, [], _∷_}
+use mathlib.Core.List.{[], _∷_}
 use mathlib.Core.Logic.{_⊎_, inl, inr}
 use mathlib.Core.Path.{_≡_, refl, sym, ap, _∙_}
 use native.Mathlib.Omega.{arith}
 use lib.ListN.{getD}
+use Rattle.laws.specs.Names.{Named}
+use Rattle.laws.proofs.Names.{in-reads}
 use Rattle.refusals.specs.Refusals.{numberOf}
 use Rattle.refusals.specs.declared.Refusal.{Refusal}
 use Rattle.refusals.proofs.Numbers.{one-number, range}
@@ -17,18 +19,8 @@ use Rattle.xl_parts.specs.declared.LinkStatus.{LinkStatus}
 use Rattle.xl_parts.specs.declared.LinkStatus.the-variants.{Ready, Partial, BlockedPartial, Connected, Refused}
 use Rattle.xl_numbers.specs.declared.states.PhaseRead.{PhaseRead}
 use Rattle.xl_numbers.specs.declared.states.AipRead.{AipRead}
-use Rattle.xl_numbers.specs.Names.{Named}
 use Rattle.xl_parts.specs.Parts.{phaseNumber}
 use Rattle.xl_numbers.specs.States.{phases, phaseOf, aipNumber, aips, aipOf, statusNumber}
-use Rattle.xl_numbers.proofs.Lists.{Each, each-at}
-
--- a list whose members name values, each in the place of the value's number
-module _ {A F : Type 0} (number : A → ℕ) (named : A → F) (xs : List F) (unnamed : F) where
-  abbrev Names : ℕ → F → Type 0
-  Names n r = (a : A) → r ≡ named a → n ≡ number a
-
-  in-reads : Each Names 0 xs → ((a : A) → unnamed ≡ named a → ⊥) → ((a : A) → getD xs (number a) unnamed ≡ named a) → Named (λ (n : ℕ) (a : A). getD xs n unnamed ≡ named a) number
-  in-reads placed apart back n a = (each-at Names unnamed (λ m a e. absurd (apart a e)) 0 xs placed n n (omega arith) a, (λ e. rw e (back a)))
 
 same-phase : (p q : Phase) → PhaseRead.Named p ≡ PhaseRead.Named q → phaseNumber p ≡ phaseNumber q
 same-phase p q e = let r : p ≡ q = cc in ap phaseNumber r

@@ -5,6 +5,7 @@ use mathlib.Core.Bool.{Bool, true, false, cond, _&&_}
 use mathlib.Core.List.{List, [], _∷_}
 use lib.Dec.{eqb, ltb}
 use lib.ListN.{getD}
+use Rattle.laws.specs.Names.{flag}
 use Rattle.xl_parts.specs.declared.Primitive.{Primitive}
 use Rattle.xl_parts.specs.declared.Message.{Message}
 use Rattle.xl_parts.specs.declared.Confirmation.{Confirmation}
@@ -141,9 +142,6 @@ said (Break BreakEvent.Received) = ActionRead.Named (Action.Break BreakAction.Tr
 said (Break BreakEvent.Routed) = ActionRead.Named (Action.Break BreakAction.Send)
 said (Break BreakEvent.Timeout) = ActionRead.Unnamed
 said Disable = ActionRead.Unnamed
-
-abbrev pub flag : Bool → ℕ
-flag t = cond t 1 0
 
 abbrev pub actionNumber : Action → Code
 actionNumber Action.None = coded 0 0

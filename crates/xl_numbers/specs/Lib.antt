@@ -1,5 +1,4 @@
 -- The numbers of what a link hears, does and remembers.
-pub mod Names
 pub mod Details
 pub mod States
 pub mod Codes

@@ -1,6 +1,7 @@
 // Events and actions as two numbers, a kind and a detail. What one link says is what another hears, so a code serves the action and
 // the event alike.
 ghost use mathlib.Core.Path.{_≡_};
+ghost use Rattle.laws.specs.Names as names;
 ghost use Rattle.xl_numbers.specs.Codes as codes;
 ghost use Rattle.xl_numbers.specs.Codes.{primitiveNumber, messageNumber, confirmationNumber, noticeNumber, breakNumber, eventNumber, upTo, fromLine, fromRouter, fromManager, eventOf, actionNumber, actionOf};
 use crate::details;
@@ -234,7 +235,7 @@ fn said(e: Event) -> ActionRead
 }
 
 fn flag(t: bool) -> u8
-    ensures { λ r. ⌜ r ≡ codes.flag t ⌝ }
+    ensures { λ r. ⌜ r ≡ names.flag t ⌝ }
 {
     if t { 1 } else { 0 }
 }

@@ -23,14 +23,20 @@ use Rattle.ssp_frame.proofs.data.read_data.Kinds as read-data-of
 use Rattle.ssp_frame.proofs.data.read_data.Reads as read-data
 use Rattle.ssp_frame.proofs.data.write_data.Kinds as write-data-of
 use Rattle.ssp_frame.proofs.data.write_data.Reads as write-data
-use Rattle.sonerwal.proofs.sas_open_read.Kinds as sas-open-read-of
-use Rattle.sonerwal.proofs.sas_open_read.Reads as sas-open-read
-use Rattle.sonerwal.proofs.sas_open_write.Kinds as sas-open-write-of
-use Rattle.sonerwal.proofs.sas_open_write.Reads as sas-open-write
-use Rattle.sonerwal.proofs.sas_data_read.Kinds as sas-data-read-of
-use Rattle.sonerwal.proofs.sas_data_read.Reads as sas-data-read
-use Rattle.sonerwal.proofs.sas_data_write.Kinds as sas-data-write-of
-use Rattle.sonerwal.proofs.sas_data_write.Reads as sas-data-write
+use Rattle.sonerwal.proofs.frames.sonerwal_open_read.Kinds as sonerwal-open-read-of
+use Rattle.sonerwal.proofs.frames.sonerwal_open_read.Reads as sonerwal-open-read
+use Rattle.sonerwal.proofs.frames.sonerwal_open_write.Kinds as sonerwal-open-write-of
+use Rattle.sonerwal.proofs.frames.sonerwal_open_write.Reads as sonerwal-open-write
+use Rattle.sonerwal.proofs.frames.sonerwal_data_read.Kinds as sonerwal-data-read-of
+use Rattle.sonerwal.proofs.frames.sonerwal_data_read.Reads as sonerwal-data-read
+use Rattle.sonerwal.proofs.frames.sonerwal_data_write.Kinds as sonerwal-data-write-of
+use Rattle.sonerwal.proofs.frames.sonerwal_data_write.Reads as sonerwal-data-write
+use Rattle.sonerwal.proofs.sonerwal_version.Kinds as sonerwal-version-of
+use Rattle.sonerwal.proofs.sonerwal_version.Reads as sonerwal-version
+use Rattle.sonerwal.proofs.frames.sonerwal_wait_value.Kinds as sonerwal-wait-value-of
+use Rattle.sonerwal.proofs.frames.sonerwal_wait_value.Reads as sonerwal-wait-value
+use Rattle.sonerwal.proofs.frames.sonerwal_open_higher.Kinds as sonerwal-open-higher-of
+use Rattle.sonerwal.proofs.frames.sonerwal_open_higher.Reads as sonerwal-open-higher
 use Rattle.claims.proofs.Calls.{Anything}
 
 pub record Frames : Type 2 where
@@ -46,10 +52,13 @@ pub record Frames : Type 2 where
   pub data-listed : Anything 0 data-listed-of.ps data-listed.Pre
   pub read-data : Anything 1 read-data-of.ps read-data.Pre
   pub write-data : Anything 2 write-data-of.ps write-data.Pre
-  pub sas-open-read : Anything 10 sas-open-read-of.ps sas-open-read.Pre
-  pub sas-open-write : Anything 1 sas-open-write-of.ps sas-open-write.Pre
-  pub sas-data-read : Anything 7 sas-data-read-of.ps sas-data-read.Pre
-  pub sas-data-write : Anything 2 sas-data-write-of.ps sas-data-write.Pre
+  pub sonerwal-open-read : Anything 10 sonerwal-open-read-of.ps sonerwal-open-read.Pre
+  pub sonerwal-open-write : Anything 1 sonerwal-open-write-of.ps sonerwal-open-write.Pre
+  pub sonerwal-data-read : Anything 7 sonerwal-data-read-of.ps sonerwal-data-read.Pre
+  pub sonerwal-data-write : Anything 2 sonerwal-data-write-of.ps sonerwal-data-write.Pre
+  pub sonerwal-version : Anything 0 sonerwal-version-of.ps sonerwal-version.Pre
+  pub sonerwal-wait-value : Anything 0 sonerwal-wait-value-of.ps sonerwal-wait-value.Pre
+  pub sonerwal-open-higher : Anything 0 sonerwal-open-higher-of.ps sonerwal-open-higher.Pre
 
 pub frames : Frames
 frames = record {
@@ -65,8 +74,11 @@ frames = record {
   data-listed = λ κs a. tt;
   read-data = λ κs a. tt;
   write-data = λ κs a. tt;
-  sas-open-read = λ κs a. tt;
-  sas-open-write = λ κs a. tt;
-  sas-data-read = λ κs a. tt;
-  sas-data-write = λ κs a. tt;
+  sonerwal-open-read = λ κs a. tt;
+  sonerwal-open-write = λ κs a. tt;
+  sonerwal-data-read = λ κs a. tt;
+  sonerwal-data-write = λ κs a. tt;
+  sonerwal-version = λ κs a. tt;
+  sonerwal-wait-value = λ κs a. tt;
+  sonerwal-open-higher = λ κs a. tt;
 }

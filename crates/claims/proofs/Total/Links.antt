@@ -33,8 +33,6 @@ use Rattle.xl.proofs.receive.Kinds as xl-receive-of
 use Rattle.xl.proofs.receive.Reads as xl-receive
 use Rattle.xl.proofs.status.Kinds as xl-status-of
 use Rattle.xl.proofs.status.Reads as xl-status
-use Rattle.bench_links.proofs.bench_links.Kinds as bench-links-of
-use Rattle.bench_links.proofs.bench_links.Reads as bench-links
 use Rattle.claims.proofs.Calls.{Anything}
 
 pub record Links : Type 2 where
@@ -55,7 +53,6 @@ pub record Links : Type 2 where
   pub xl-step : Anything 0 xl-step-of.ps xl-step.Pre
   pub xl-receive : Anything 1 xl-receive-of.ps xl-receive.Pre
   pub xl-status : Anything 0 xl-status-of.ps xl-status.Pre
-  pub bench-links : Anything 1 bench-links-of.ps bench-links.Pre
 
 pub links : Links
 links = record {
@@ -76,5 +73,4 @@ links = record {
   xl-step = λ κs a. tt;
   xl-receive = λ κs a. tt;
   xl-status = λ κs a. tt;
-  bench-links = λ κs a. tt;
 }

@@ -33,14 +33,20 @@ use Rattle.ssp_frame.proofs.data.read_data.Kinds as read-data-of
 use Rattle.ssp_frame.proofs.data.read_data.Reads as read-data
 use Rattle.ssp_frame.proofs.data.write_data.Kinds as write-data-of
 use Rattle.ssp_frame.proofs.data.write_data.Reads as write-data
-use Rattle.sonerwal.proofs.sas_open_read.Kinds as sas-open-read-of
-use Rattle.sonerwal.proofs.sas_open_read.Reads as sas-open-read
-use Rattle.sonerwal.proofs.sas_open_write.Kinds as sas-open-write-of
-use Rattle.sonerwal.proofs.sas_open_write.Reads as sas-open-write
-use Rattle.sonerwal.proofs.sas_data_read.Kinds as sas-data-read-of
-use Rattle.sonerwal.proofs.sas_data_read.Reads as sas-data-read
-use Rattle.sonerwal.proofs.sas_data_write.Kinds as sas-data-write-of
-use Rattle.sonerwal.proofs.sas_data_write.Reads as sas-data-write
+use Rattle.sonerwal.proofs.frames.sonerwal_open_read.Kinds as sonerwal-open-read-of
+use Rattle.sonerwal.proofs.frames.sonerwal_open_read.Reads as sonerwal-open-read
+use Rattle.sonerwal.proofs.frames.sonerwal_open_write.Kinds as sonerwal-open-write-of
+use Rattle.sonerwal.proofs.frames.sonerwal_open_write.Reads as sonerwal-open-write
+use Rattle.sonerwal.proofs.frames.sonerwal_data_read.Kinds as sonerwal-data-read-of
+use Rattle.sonerwal.proofs.frames.sonerwal_data_read.Reads as sonerwal-data-read
+use Rattle.sonerwal.proofs.frames.sonerwal_data_write.Kinds as sonerwal-data-write-of
+use Rattle.sonerwal.proofs.frames.sonerwal_data_write.Reads as sonerwal-data-write
+use Rattle.sonerwal.proofs.sonerwal_version.Kinds as sonerwal-version-of
+use Rattle.sonerwal.proofs.sonerwal_version.Reads as sonerwal-version
+use Rattle.sonerwal.proofs.frames.sonerwal_wait_value.Kinds as sonerwal-wait-value-of
+use Rattle.sonerwal.proofs.frames.sonerwal_wait_value.Reads as sonerwal-wait-value
+use Rattle.sonerwal.proofs.frames.sonerwal_open_higher.Kinds as sonerwal-open-higher-of
+use Rattle.sonerwal.proofs.frames.sonerwal_open_higher.Reads as sonerwal-open-higher
 use Rattle.claims.proofs.Calls.{One, none}
 use Rattle.claims.proofs.Named.{behind3, behind9, first6, first9, open-of, data-of}
 
@@ -53,17 +59,17 @@ write-open-left κs s = now (s .1 .0)
 abbrev write-data-left : (κs : Lifetimes.Lfts 2) → Clauses.AtExit (kinds.endedOf 2 write-data-of.ps write-data-of.r) κs → List ℕ
 write-data-left κs s = now (s .1 .1 .0)
 
-abbrev sas-open-read-left : (κs : Lifetimes.Lfts 10) → Clauses.AtExit (kinds.endedOf 10 sas-open-read-of.ps sas-open-read-of.r) κs → OpenFrame
-sas-open-read-left κs s = open-of (map now (first9 (s .1)))
+abbrev sonerwal-open-read-left : (κs : Lifetimes.Lfts 10) → Clauses.AtExit (kinds.endedOf 10 sonerwal-open-read-of.ps sonerwal-open-read-of.r) κs → OpenFrame
+sonerwal-open-read-left κs s = open-of (map now (first9 (s .1)))
 
-abbrev sas-open-write-left : (κs : Lifetimes.Lfts 1) → Clauses.AtExit (kinds.endedOf 1 sas-open-write-of.ps sas-open-write-of.r) κs → List ℕ
-sas-open-write-left κs s = now (behind9 s .0)
+abbrev sonerwal-open-write-left : (κs : Lifetimes.Lfts 1) → Clauses.AtExit (kinds.endedOf 1 sonerwal-open-write-of.ps sonerwal-open-write-of.r) κs → List ℕ
+sonerwal-open-write-left κs s = now (behind9 s .0)
 
-abbrev sas-data-read-left : (κs : Lifetimes.Lfts 7) → Clauses.AtExit (kinds.endedOf 7 sas-data-read-of.ps sas-data-read-of.r) κs → DataFrame
-sas-data-read-left κs s = data-of (map now (first6 (s .1)))
+abbrev sonerwal-data-read-left : (κs : Lifetimes.Lfts 7) → Clauses.AtExit (kinds.endedOf 7 sonerwal-data-read-of.ps sonerwal-data-read-of.r) κs → DataFrame
+sonerwal-data-read-left κs s = data-of (map now (first6 (s .1)))
 
-abbrev sas-data-write-left : (κs : Lifetimes.Lfts 2) → Clauses.AtExit (kinds.endedOf 2 sas-data-write-of.ps sas-data-write-of.r) κs → List ℕ
-sas-data-write-left κs s = now (behind3 (behind3 s) .0)
+abbrev sonerwal-data-write-left : (κs : Lifetimes.Lfts 2) → Clauses.AtExit (kinds.endedOf 2 sonerwal-data-write-of.ps sonerwal-data-write-of.r) κs → List ℕ
+sonerwal-data-write-left κs s = now (behind3 (behind3 s) .0)
 
 pub record Frames : Type 2 where
   pub number : One 0 number-of.ps number-of.r (none 0 number-of.ps number-of.r) number.Post
@@ -78,10 +84,13 @@ pub record Frames : Type 2 where
   pub data-listed : One 0 data-listed-of.ps data-listed-of.r (none 0 data-listed-of.ps data-listed-of.r) data-listed.Post
   pub read-data : One 1 read-data-of.ps read-data-of.r (none 1 read-data-of.ps read-data-of.r) read-data.Post
   pub write-data : One 2 write-data-of.ps write-data-of.r write-data-left write-data.Post
-  pub sas-open-read : One 10 sas-open-read-of.ps sas-open-read-of.r sas-open-read-left sas-open-read.Post
-  pub sas-open-write : One 1 sas-open-write-of.ps sas-open-write-of.r sas-open-write-left sas-open-write.Post
-  pub sas-data-read : One 7 sas-data-read-of.ps sas-data-read-of.r sas-data-read-left sas-data-read.Post
-  pub sas-data-write : One 2 sas-data-write-of.ps sas-data-write-of.r sas-data-write-left sas-data-write.Post
+  pub sonerwal-open-read : One 10 sonerwal-open-read-of.ps sonerwal-open-read-of.r sonerwal-open-read-left sonerwal-open-read.Post
+  pub sonerwal-open-write : One 1 sonerwal-open-write-of.ps sonerwal-open-write-of.r sonerwal-open-write-left sonerwal-open-write.Post
+  pub sonerwal-data-read : One 7 sonerwal-data-read-of.ps sonerwal-data-read-of.r sonerwal-data-read-left sonerwal-data-read.Post
+  pub sonerwal-data-write : One 2 sonerwal-data-write-of.ps sonerwal-data-write-of.r sonerwal-data-write-left sonerwal-data-write.Post
+  pub sonerwal-version : One 0 sonerwal-version-of.ps sonerwal-version-of.r (none 0 sonerwal-version-of.ps sonerwal-version-of.r) sonerwal-version.Post
+  pub sonerwal-wait-value : One 0 sonerwal-wait-value-of.ps sonerwal-wait-value-of.r (none 0 sonerwal-wait-value-of.ps sonerwal-wait-value-of.r) sonerwal-wait-value.Post
+  pub sonerwal-open-higher : One 0 sonerwal-open-higher-of.ps sonerwal-open-higher-of.r (none 0 sonerwal-open-higher-of.ps sonerwal-open-higher-of.r) sonerwal-open-higher.Post
 
 pub frames : Frames
 frames = record {
@@ -97,8 +106,11 @@ frames = record {
   data-listed = λ κs a x y s t p q. (p ∙ sym q, refl);
   read-data = λ κs a x y s t p q. (p ∙ sym q, refl);
   write-data = λ κs a x y s t p q. wrote-once p q;
-  sas-open-read = λ κs a x y s t p q. (p .answer ∙ sym (q .answer), p .leaves ∙ sym (q .leaves));
-  sas-open-write = λ κs a x y s t p q. (p .answer ∙ sym (q .answer), p .leaves ∙ sym (q .leaves));
-  sas-data-read = λ κs a x y s t p q. (p .answer ∙ sym (q .answer), p .leaves ∙ sym (q .leaves));
-  sas-data-write = λ κs a x y s t p q. (p .answer ∙ sym (q .answer), p .leaves ∙ sym (q .leaves));
+  sonerwal-open-read = λ κs a x y s t p q. (p .answer ∙ sym (q .answer), p .leaves ∙ sym (q .leaves));
+  sonerwal-open-write = λ κs a x y s t p q. (p .answer ∙ sym (q .answer), p .leaves ∙ sym (q .leaves));
+  sonerwal-data-read = λ κs a x y s t p q. (p .answer ∙ sym (q .answer), p .leaves ∙ sym (q .leaves));
+  sonerwal-data-write = λ κs a x y s t p q. (p .answer ∙ sym (q .answer), p .leaves ∙ sym (q .leaves));
+  sonerwal-version = λ κs a x y s t p q. (p ∙ sym q, refl);
+  sonerwal-wait-value = λ κs a x y s t p q. (p ∙ sym q, refl);
+  sonerwal-open-higher = λ κs a x y s t p q. (p ∙ sym q, refl);
 }

@@ -34,8 +34,6 @@ use Rattle.xl.proofs.receive.Kinds as xl-receive-of
 use Rattle.xl.proofs.receive.Reads as xl-receive
 use Rattle.xl.proofs.status.Kinds as xl-status-of
 use Rattle.xl.proofs.status.Reads as xl-status
-use Rattle.bench_links.proofs.bench_links.Kinds as bench-links-of
-use Rattle.bench_links.proofs.bench_links.Reads as bench-links
 use Rattle.claims.proofs.Calls.{One, none}
 
 pub record Links : Type 2 where
@@ -56,7 +54,6 @@ pub record Links : Type 2 where
   pub xl-step : One 0 xl-step-of.ps xl-step-of.r (none 0 xl-step-of.ps xl-step-of.r) xl-step.Post
   pub xl-receive : One 1 xl-receive-of.ps xl-receive-of.r (none 1 xl-receive-of.ps xl-receive-of.r) xl-receive.Post
   pub xl-status : One 0 xl-status-of.ps xl-status-of.r (none 0 xl-status-of.ps xl-status-of.r) xl-status.Post
-  pub bench-links : One 1 bench-links-of.ps bench-links-of.r (none 1 bench-links-of.ps bench-links-of.r) bench-links.Post
 
 pub links : Links
 links = record {
@@ -77,5 +74,4 @@ links = record {
   xl-step = λ κs a x y s t p q. (p ∙ sym q, refl);
   xl-receive = λ κs a x y s t p q. (p ∙ sym q, refl);
   xl-status = λ κs a x y s t p q. (p ∙ sym q, refl);
-  bench-links = λ κs a x y s t p q. (p ∙ sym q, refl);
 }

@@ -1,4 +1,4 @@
--- Two outcomes that meet a promise are equal: the read transfer, the next-frame call and the bench over them. Assumes nothing.
+-- Two outcomes that meet a promise are equal: the read transfer, the next-frame call, what C sees of them, and the bench over them. Assumes nothing.
 use Prim.Native.Nat.{ℕ}
 use mathlib.Core.List.{List}
 use mathlib.Core.Path.{refl, sym, _∙_}
@@ -32,27 +32,63 @@ use Rattle.transfer.proofs.Transfer.cancel.Kinds as cancel-of
 use Rattle.transfer.proofs.Transfer.cancel.Reads as cancel
 use Rattle.send.proofs.next_frame.Kinds as next-frame-of
 use Rattle.send.proofs.next_frame.Reads as next-frame
-use Rattle.bench_steps.proofs.bench_frames.Kinds as bench-frames-of
-use Rattle.bench_steps.proofs.bench_frames.Reads as bench-frames
-use Rattle.bench_steps.proofs.bench_acks.Kinds as bench-acks-of
-use Rattle.bench_steps.proofs.bench_acks.Reads as bench-acks
-use Rattle.bench_steps.proofs.bench_turns.Kinds as bench-turns-of
-use Rattle.bench_steps.proofs.bench_turns.Reads as bench-turns
-use Rattle.bench_steps.proofs.bench_next.Kinds as bench-next-of
-use Rattle.bench_steps.proofs.bench_next.Reads as bench-next
-use Rattle.bench_steps.proofs.bench_calls.Kinds as bench-calls-of
-use Rattle.bench_steps.proofs.bench_calls.Reads as bench-calls
+use Rattle.transfer_lent.proofs.State.start.Kinds as lent-start-of
+use Rattle.transfer_lent.proofs.State.start.Reads as lent-start
+use Rattle.transfer_lent.proofs.State.frame.Kinds as lent-frame-of
+use Rattle.transfer_lent.proofs.State.frame.Reads as lent-frame
+use Rattle.transfer_lent.proofs.State.ack.Kinds as lent-ack-of
+use Rattle.transfer_lent.proofs.State.ack.Reads as lent-ack
+use Rattle.transfer_lent.proofs.State.nak.Kinds as lent-nak-of
+use Rattle.transfer_lent.proofs.State.nak.Reads as lent-nak
+use Rattle.transfer_lent.proofs.State.timeout.Kinds as lent-timeout-of
+use Rattle.transfer_lent.proofs.State.timeout.Reads as lent-timeout
+use Rattle.transfer_lent.proofs.State.lost.Kinds as lent-lost-of
+use Rattle.transfer_lent.proofs.State.lost.Reads as lent-lost
+use Rattle.transfer_lent.proofs.State.nexus.Kinds as lent-nexus-of
+use Rattle.transfer_lent.proofs.State.nexus.Reads as lent-nexus
+use Rattle.transfer_lent.proofs.State.cancel.Kinds as lent-cancel-of
+use Rattle.transfer_lent.proofs.State.cancel.Reads as lent-cancel
+use Rattle.transfer_lent.proofs.State.next.Kinds as lent-next-of
+use Rattle.transfer_lent.proofs.State.next.Reads as lent-next
+use Rattle.transfer_lent.proofs.State.length.Kinds as lent-length-of
+use Rattle.transfer_lent.proofs.State.length.Reads as lent-length
+use Rattle.transfer_lent.proofs.numbers.phase_number.Kinds as phase-number-of
+use Rattle.transfer_lent.proofs.numbers.phase_number.Reads as phase-number
+use Rattle.transfer_lent.proofs.numbers.phase_of.Kinds as phase-of-of
+use Rattle.transfer_lent.proofs.numbers.phase_of.Reads as phase-of
+use Rattle.transfer_lent.proofs.numbers.answer_number.Kinds as answer-number-of
+use Rattle.transfer_lent.proofs.numbers.answer_number.Reads as answer-number
+use Rattle.sonerwal.proofs.transfer.sonerwal_transfer_start.Kinds as c-start-of
+use Rattle.sonerwal.proofs.transfer.sonerwal_transfer_start.Reads as c-start
+use Rattle.sonerwal.proofs.transfer.sonerwal_transfer_frame.Kinds as c-frame-of
+use Rattle.sonerwal.proofs.transfer.sonerwal_transfer_frame.Reads as c-frame
+use Rattle.sonerwal.proofs.transfer.sonerwal_transfer_ack.Kinds as c-ack-of
+use Rattle.sonerwal.proofs.transfer.sonerwal_transfer_ack.Reads as c-ack
+use Rattle.sonerwal.proofs.transfer.sonerwal_transfer_nak.Kinds as c-nak-of
+use Rattle.sonerwal.proofs.transfer.sonerwal_transfer_nak.Reads as c-nak
+use Rattle.sonerwal.proofs.transfer.sonerwal_transfer_timeout.Kinds as c-timeout-of
+use Rattle.sonerwal.proofs.transfer.sonerwal_transfer_timeout.Reads as c-timeout
+use Rattle.sonerwal.proofs.transfer.sonerwal_transfer_lost.Kinds as c-lost-of
+use Rattle.sonerwal.proofs.transfer.sonerwal_transfer_lost.Reads as c-lost
+use Rattle.sonerwal.proofs.transfer.sonerwal_transfer_nexus.Kinds as c-nexus-of
+use Rattle.sonerwal.proofs.transfer.sonerwal_transfer_nexus.Reads as c-nexus
+use Rattle.sonerwal.proofs.transfer.sonerwal_transfer_cancel.Kinds as c-cancel-of
+use Rattle.sonerwal.proofs.transfer.sonerwal_transfer_cancel.Reads as c-cancel
+use Rattle.sonerwal.proofs.transfer.sonerwal_transfer_next.Kinds as c-next-of
+use Rattle.sonerwal.proofs.transfer.sonerwal_transfer_next.Reads as c-next
+use Rattle.sonerwal.proofs.transfer.sonerwal_transfer_length.Kinds as c-length-of
+use Rattle.sonerwal.proofs.transfer.sonerwal_transfer_length.Reads as c-length
 use Rattle.claims.proofs.Calls.{One, none}
-use Rattle.claims.proofs.Named.{behind3, behind9}
+use Rattle.claims.proofs.Named.{behind3}
 
 abbrev next-frame-left : (κs : Lifetimes.Lfts 2) → Clauses.AtExit (kinds.endedOf 2 next-frame-of.ps next-frame-of.r) κs → List ℕ
 next-frame-left κs s = now (behind3 (s .1) .1 .0)
 
-abbrev bench-next-left : (κs : Lifetimes.Lfts 2) → Clauses.AtExit (kinds.endedOf 2 bench-next-of.ps bench-next-of.r) κs → List ℕ
-bench-next-left κs s = now (behind9 s .0)
+abbrev lent-next-left : (κs : Lifetimes.Lfts 2) → Clauses.AtExit (kinds.endedOf 2 lent-next-of.ps lent-next-of.r) κs → List ℕ
+lent-next-left κs s = now (behind3 (s .1) .1 .0)
 
-abbrev bench-calls-left : (κs : Lifetimes.Lfts 3) → Clauses.AtExit (kinds.endedOf 3 bench-calls-of.ps bench-calls-of.r) κs → List ℕ
-bench-calls-left κs s = now (behind9 s .0)
+abbrev c-next-left : (κs : Lifetimes.Lfts 2) → Clauses.AtExit (kinds.endedOf 2 c-next-of.ps c-next-of.r) κs → List ℕ
+c-next-left κs s = now (behind3 (s .1) .1 .0)
 
 pub record Transfer : Type 2 where
   pub unstarted : One 0 unstarted-of.ps unstarted-of.r (none 0 unstarted-of.ps unstarted-of.r) unstarted.Post
@@ -68,11 +104,29 @@ pub record Transfer : Type 2 where
   pub nexus : One 0 nexus-of.ps nexus-of.r (none 0 nexus-of.ps nexus-of.r) nexus.Post
   pub cancel : One 0 cancel-of.ps cancel-of.r (none 0 cancel-of.ps cancel-of.r) cancel.Post
   pub next-frame : One 2 next-frame-of.ps next-frame-of.r next-frame-left next-frame.Post
-  pub bench-frames : One 0 bench-frames-of.ps bench-frames-of.r (none 0 bench-frames-of.ps bench-frames-of.r) bench-frames.Post
-  pub bench-acks : One 0 bench-acks-of.ps bench-acks-of.r (none 0 bench-acks-of.ps bench-acks-of.r) bench-acks.Post
-  pub bench-turns : One 0 bench-turns-of.ps bench-turns-of.r (none 0 bench-turns-of.ps bench-turns-of.r) bench-turns.Post
-  pub bench-next : One 2 bench-next-of.ps bench-next-of.r bench-next-left bench-next.Post
-  pub bench-calls : One 3 bench-calls-of.ps bench-calls-of.r bench-calls-left bench-calls.Post
+  pub lent-start : One 0 lent-start-of.ps lent-start-of.r (none 0 lent-start-of.ps lent-start-of.r) lent-start.Post
+  pub lent-frame : One 0 lent-frame-of.ps lent-frame-of.r (none 0 lent-frame-of.ps lent-frame-of.r) lent-frame.Post
+  pub lent-ack : One 0 lent-ack-of.ps lent-ack-of.r (none 0 lent-ack-of.ps lent-ack-of.r) lent-ack.Post
+  pub lent-nak : One 0 lent-nak-of.ps lent-nak-of.r (none 0 lent-nak-of.ps lent-nak-of.r) lent-nak.Post
+  pub lent-timeout : One 0 lent-timeout-of.ps lent-timeout-of.r (none 0 lent-timeout-of.ps lent-timeout-of.r) lent-timeout.Post
+  pub lent-lost : One 0 lent-lost-of.ps lent-lost-of.r (none 0 lent-lost-of.ps lent-lost-of.r) lent-lost.Post
+  pub lent-nexus : One 0 lent-nexus-of.ps lent-nexus-of.r (none 0 lent-nexus-of.ps lent-nexus-of.r) lent-nexus.Post
+  pub lent-cancel : One 0 lent-cancel-of.ps lent-cancel-of.r (none 0 lent-cancel-of.ps lent-cancel-of.r) lent-cancel.Post
+  pub lent-next : One 2 lent-next-of.ps lent-next-of.r lent-next-left lent-next.Post
+  pub lent-length : One 0 lent-length-of.ps lent-length-of.r (none 0 lent-length-of.ps lent-length-of.r) lent-length.Post
+  pub phase-number : One 0 phase-number-of.ps phase-number-of.r (none 0 phase-number-of.ps phase-number-of.r) phase-number.Post
+  pub phase-of : One 0 phase-of-of.ps phase-of-of.r (none 0 phase-of-of.ps phase-of-of.r) phase-of.Post
+  pub answer-number : One 0 answer-number-of.ps answer-number-of.r (none 0 answer-number-of.ps answer-number-of.r) answer-number.Post
+  pub c-start : One 0 c-start-of.ps c-start-of.r (none 0 c-start-of.ps c-start-of.r) c-start.Post
+  pub c-frame : One 0 c-frame-of.ps c-frame-of.r (none 0 c-frame-of.ps c-frame-of.r) c-frame.Post
+  pub c-ack : One 0 c-ack-of.ps c-ack-of.r (none 0 c-ack-of.ps c-ack-of.r) c-ack.Post
+  pub c-nak : One 0 c-nak-of.ps c-nak-of.r (none 0 c-nak-of.ps c-nak-of.r) c-nak.Post
+  pub c-timeout : One 0 c-timeout-of.ps c-timeout-of.r (none 0 c-timeout-of.ps c-timeout-of.r) c-timeout.Post
+  pub c-lost : One 0 c-lost-of.ps c-lost-of.r (none 0 c-lost-of.ps c-lost-of.r) c-lost.Post
+  pub c-nexus : One 0 c-nexus-of.ps c-nexus-of.r (none 0 c-nexus-of.ps c-nexus-of.r) c-nexus.Post
+  pub c-cancel : One 0 c-cancel-of.ps c-cancel-of.r (none 0 c-cancel-of.ps c-cancel-of.r) c-cancel.Post
+  pub c-next : One 2 c-next-of.ps c-next-of.r c-next-left c-next.Post
+  pub c-length : One 0 c-length-of.ps c-length-of.r (none 0 c-length-of.ps c-length-of.r) c-length.Post
 
 pub transfer : Transfer
 transfer = record {
@@ -89,9 +143,27 @@ transfer = record {
   nexus = λ κs a x y s t p q. (p ∙ sym q, refl);
   cancel = λ κs a x y s t p q. (p ∙ sym q, refl);
   next-frame = λ κs a x y s t p q. (p .step ∙ sym (q .step), p .bytes ∙ sym (q .bytes));
-  bench-frames = λ κs a x y s t p q. (p ∙ sym q, refl);
-  bench-acks = λ κs a x y s t p q. (p ∙ sym q, refl);
-  bench-turns = λ κs a x y s t p q. (p ∙ sym q, refl);
-  bench-next = λ κs a x y s t p q. (p .answer ∙ sym (q .answer), p .bytes ∙ sym (q .bytes));
-  bench-calls = λ κs a x y s t p q. (p .answer ∙ sym (q .answer), p .bytes ∙ sym (q .bytes));
+  lent-start = λ κs a x y s t p q. (p ∙ sym q, refl);
+  lent-frame = λ κs a x y s t p q. (p ∙ sym q, refl);
+  lent-ack = λ κs a x y s t p q. (p ∙ sym q, refl);
+  lent-nak = λ κs a x y s t p q. (p ∙ sym q, refl);
+  lent-timeout = λ κs a x y s t p q. (p ∙ sym q, refl);
+  lent-lost = λ κs a x y s t p q. (p ∙ sym q, refl);
+  lent-nexus = λ κs a x y s t p q. (p ∙ sym q, refl);
+  lent-cancel = λ κs a x y s t p q. (p ∙ sym q, refl);
+  lent-next = λ κs a x y s t p q. (p .step ∙ sym (q .step), p .bytes ∙ sym (q .bytes));
+  lent-length = λ κs a x y s t p q. (p ∙ sym q, refl);
+  phase-number = λ κs a x y s t p q. (p ∙ sym q, refl);
+  phase-of = λ κs a x y s t p q. (p ∙ sym q, refl);
+  answer-number = λ κs a x y s t p q. (p ∙ sym q, refl);
+  c-start = λ κs a x y s t p q. (p ∙ sym q, refl);
+  c-frame = λ κs a x y s t p q. (p ∙ sym q, refl);
+  c-ack = λ κs a x y s t p q. (p ∙ sym q, refl);
+  c-nak = λ κs a x y s t p q. (p ∙ sym q, refl);
+  c-timeout = λ κs a x y s t p q. (p ∙ sym q, refl);
+  c-lost = λ κs a x y s t p q. (p ∙ sym q, refl);
+  c-nexus = λ κs a x y s t p q. (p ∙ sym q, refl);
+  c-cancel = λ κs a x y s t p q. (p ∙ sym q, refl);
+  c-next = λ κs a x y s t p q. (p .step ∙ sym (q .step), p .bytes ∙ sym (q .bytes));
+  c-length = λ κs a x y s t p q. (p ∙ sym q, refl);
 }

@@ -4,7 +4,7 @@ use mathlib.Core.List.{[], _∷_}
 use Prim.Native.Nat.{_≤_}
 use native.Mathlib.Omega.{arith}
 use Rattle.xl_parts.specs.declared.Arbitration.the-variants.{WaitingOnPartial, BlockedOnPartial, WaitingOnConnection}
-use Rattle.xl_numbers.proofs.Lists.{from-last}
+use Rattle.laws.proofs.Places.{from-last}
 use borrow.Author.Needs.{needs}
 use Rattle.xl_numbers.proofs.details.arbitration_of.Statement.{statement}
 use Rattle.xl_numbers.proofs.details.arbitration_of.Tie as tie

@@ -1,2 +1,0 @@
--- What the bench's calls leave.
-pub mod Runs

@@ -1,2 +1,0 @@
--- What C sees of the port's calls.
-pub mod Face

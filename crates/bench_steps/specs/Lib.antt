@@ -1,3 +1,0 @@
--- What the bench's calls do.
-pub mod Rounds
-pub mod Calls

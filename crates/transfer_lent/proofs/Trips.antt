@@ -1,0 +1,69 @@
+-- Each phase's number is its place in the list; a refusal's number is below that of whatever happened, and above 0. Assumes nothing.
+use Prim.Native.Nat.{ℕ, _-_, _≤_, _<_}
+use mathlib.Core.List.{[], _∷_}
+use mathlib.Core.Path.{_≡_, refl, sym, ap, _∙_}
+use native.Mathlib.Omega.{arith}
+use lib.ListN.{getD}
+use Rattle.laws.specs.Names.{Named}
+use Rattle.laws.proofs.Names.{numbered, in-list}
+use Rattle.laws.proofs.Places.{Each}
+use Rattle.refusals.specs.Refusals.{numberOf}
+use Rattle.refusals.specs.declared.Refusal.{Refusal}
+use Rattle.refusals.proofs.Numbers.{one-number, range}
+use Rattle.transfer.specs.declared.Phase.{Phase}
+use Rattle.transfer.specs.declared.Answer.{Answer}
+use Rattle.transfer.specs.declared.Answer.the-variants.{Ok, Sent, Drain, Retry, Done, Fail, End, Refused}
+use Rattle.transfer_lent.specs.Numbers.{phaseNumber, phases, phaseOf, answerNumber}
+
+pub phase-back : (p : Phase) → (phaseNumber p < 6) × (phaseOf (phaseNumber p) ≡ p)
+phase-back Phase.New = (omega arith, refl)
+phase-back Phase.Run = (omega arith, refl)
+phase-back Phase.Drain = (omega arith, refl)
+phase-back Phase.Done = (omega arith, refl)
+phase-back Phase.Fail = (omega arith, refl)
+phase-back Phase.End = (omega arith, refl)
+
+phases-placed : Each (λ (n : ℕ) (p : Phase). n ≡ phaseNumber p) 0 phases
+phases-placed = (refl, (refl, (refl, (refl, (refl, (refl, tt))))))
+
+pub phase-at : (n : ℕ) → n < 6 → n ≡ phaseNumber (phaseOf n)
+phase-at = numbered phaseNumber phases Phase.End phases-placed
+
+pub phase-named : Named (λ (n : ℕ) (p : Phase). (n < 6) × (phaseOf n ≡ p)) phaseNumber
+phase-named = in-list phaseNumber phases Phase.End phases-placed phase-back
+
+-- what happened, by its number: Ok's is 0, and a refusal stands nowhere here
+abbrev happened : ℕ → Answer
+happened n = getD (Ok ∷ Sent ∷ Drain ∷ Retry ∷ Done ∷ Fail ∷ End ∷ []) (n - 15) Ok
+
+-- an answer is a refusal, or is found at its number, which no refusal has
+pub data Told : Answer → Type 0 where
+  refusal : (k : Refusal) → Told (Refused k)
+  none : (a : Answer) → ((k : Refusal) → answerNumber a ≡ numberOf k → ⊥) → happened (answerNumber a) ≡ a → Told a
+
+no-refusal : {n : ℕ} → 10 < n → (k : Refusal) → n ≡ numberOf k → ⊥
+no-refusal l k e = let r = range k in omega (arith, r, l, e)
+
+pub answer-told : (a : Answer) → Told a
+answer-told Ok = none Ok (λ k e. let r = range k in omega (arith, r, e)) refl
+answer-told Sent = none Sent (no-refusal (omega arith)) refl
+answer-told Drain = none Drain (no-refusal (omega arith)) refl
+answer-told Retry = none Retry (no-refusal (omega arith)) refl
+answer-told Done = none Done (no-refusal (omega arith)) refl
+answer-told Fail = none Fail (no-refusal (omega arith)) refl
+answer-told End = none End (no-refusal (omega arith)) refl
+answer-told (Refused k) = refusal k
+
+-- no two answers share a number
+pub one-answer : (a b : Answer) → answerNumber a ≡ answerNumber b → a ≡ b
+one-answer a b e = both (answer-told a) (answer-told b) e
+  where
+    both : {a b : Answer} → Told a → Told b → answerNumber a ≡ answerNumber b → a ≡ b
+    both (refusal j) (refusal k) e = ap Refused (one-number j k e)
+    both (refusal j) (none b off q) e = absurd (off j (sym e))
+    both (none a off p) (refusal k) e = absurd (off k e)
+    both (none a off p) (none b on q) e = sym p ∙ ap happened e ∙ q
+
+-- a refusal is told by its number
+pub refused-told : (a : Answer) (k : Refusal) → answerNumber a ≡ numberOf k → a ≡ Refused k
+refused-told a k e = one-answer a (Refused k) e

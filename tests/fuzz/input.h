@@ -1,0 +1,26 @@
+/* An input taken byte by byte, with zeros past its end, and what is required of a call. */
+#ifndef SONERWAL_TESTS_FUZZ_INPUT_H
+#define SONERWAL_TESTS_FUZZ_INPUT_H
+
+#include <stddef.h>
+#include <stdint.h>
+
+enum { ROOM = 1200, NOISE = 0xA5 };
+
+struct input {
+	const uint8_t *at, *end;
+};
+
+uint64_t number(struct input *in, unsigned bytes);
+
+/* As many bytes as a struct has, in the order of the input. */
+void fill(struct input *in, void *to, size_t len);
+
+/* Ends the run if something isn't as it should be. */
+void require(int good, const char *what);
+
+/* The machines' calls, in machines.c. */
+void try_transfer(struct input *in);
+void try_link(struct input *in);
+
+#endif
