@@ -83,13 +83,15 @@ int compare(const struct bench *bench, int argc, char **argv)
 	return strict && missed ? EXIT_FAILURE : EXIT_SUCCESS;
 }
 
+/* What nobody reads, and no compiler may leave out. */
+static volatile uint64_t sink;
+
 void show_crossing(const char *whose, uint64_t (*many)(void), unsigned calls)
 {
 	double best = 0;
-	volatile uint64_t sum = 0;
 	for (int round = 0; round < ROUNDS; round++) {
 		double start = nanoseconds();
-		sum += many();
+		sink = many();
 		double each = (nanoseconds() - start) / calls;
 		best = best == 0 || each < best ? each : best;
 	}

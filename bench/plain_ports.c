@@ -5,7 +5,7 @@
 
 /* Document 01, 'Port', as a board's firmware would have it: a test leaves at the first rule that is broken. */
 
-enum { LENGTH = 32, SSP = 1 };
+enum { LENGTH = SONERWAL_SLOTS, PHYS = SONERWAL_PHYS, SSP = SONERWAL_PROTOCOL_SSP };
 enum { FREE, WAITS, IN_PROGRESS };
 enum { DISABLED, UNCONNECTED, OPENING, IDLE, FRAME_OUT, CLOSING, CLOSING_FRAME_OUT };
 
@@ -29,7 +29,7 @@ static bool phy_kept(const struct sonerwal_port *port, int k)
 	const struct sonerwal_phy *p = &port->phys[k];
 	bool names = p->slot < LENGTH;
 	bool must = p->stage == OPENING || p->stage == FRAME_OUT || p->stage == CLOSING_FRAME_OUT;
-	if (p->zero4 || p->zero1 || p->stage > CLOSING_FRAME_OUT || p->protocol > 2 || p->slot > LENGTH) {
+	if (p->stage > CLOSING_FRAME_OUT || p->protocol > 2 || p->slot > LENGTH || p->zero4 != 0 || p->zero1 != 0) {
 		return false;
 	}
 	if ((must && !names) || (names && !must && p->stage != CLOSING)) {
@@ -40,7 +40,7 @@ static bool phy_kept(const struct sonerwal_port *port, int k)
 
 static bool port_invariant(const struct sonerwal_port *port)
 {
-	if (port->zero4 || port->zero1 || port->count < 1 || port->count > PHYS || port->loss < 1) {
+	if (port->count < 1 || port->count > PHYS || port->loss < 1 || port->zero4 != 0 || port->zero1 != 0) {
 		return false;
 	}
 	for (int k = 0; k < PHYS; k++) {
@@ -98,7 +98,7 @@ static bool apart(const struct sonerwal_request *list, size_t i)
 	return true;
 }
 
-static bool rules(const struct sonerwal_request *list, const struct sonerwal_port *port)
+static bool kept(const struct sonerwal_request *list, const struct sonerwal_port *port)
 {
 	if (!port_invariant(port) || !paired(list, port)) {
 		return false;
@@ -111,51 +111,52 @@ static bool rules(const struct sonerwal_request *list, const struct sonerwal_por
 	return true;
 }
 
-static void name(struct sonerwal_port_step *step, int answer, size_t slot, uint8_t phy, const struct sonerwal_head *head)
+/* ---- Answers */
+
+static struct sonerwal_port_step unnamed(struct sonerwal_port port, uint8_t answer)
 {
-	step->answer = (uint8_t)answer;
-	step->slot = (uint8_t)slot;
-	step->phy = phy;
-	step->frame = frame_of(*head);
+	struct sonerwal_port_step r;
+	memset(&r.frame, 0, sizeof r.frame);
+	r.port = port;
+	r.answer = answer;
+	r.detail = 0;
+	r.slot = SONERWAL_NO_SLOT;
+	r.phy = SONERWAL_NO_PHY;
+	return r;
 }
 
-/* A call that names no request and no phy. */
-static void begin(struct sonerwal_port_step *step, const struct sonerwal_port *port)
+static struct sonerwal_port_step named(struct sonerwal_port port, uint8_t answer, size_t slot, uint8_t phy, const struct sonerwal_head *h)
 {
-	memset(&step->frame, 0, sizeof step->frame);
-	step->port = *port;
-	step->answer = SONERWAL_OK;
-	step->detail = 0;
-	step->slot = LENGTH;
-	step->phy = PHYS;
+	struct sonerwal_port_step r = unnamed(port, answer);
+	r.slot = (uint8_t)slot;
+	r.phy = phy;
+	r.frame.destination = h->destination;
+	r.frame.source = h->source;
+	r.frame.tag = h->tag;
+	r.frame.initiator = h->initiator;
+	r.frame.protocol = h->protocol;
+	r.frame.features = (uint8_t)h->features;
+	r.frame.rate = (uint8_t)h->rate;
+	return r;
 }
 
-static struct sonerwal_head head_of(const struct sonerwal_open *o)
-{
-	return (struct sonerwal_head){o->initiator, o->protocol, o->features, o->rate, o->tag, o->destination, o->source};
-}
+/* ---- Calls */
 
-struct sonerwal_port_step plain_port_submit(struct sonerwal_request *list, size_t length, struct sonerwal_port port, struct sonerwal_open frame,
+struct sonerwal_port_step plain_port_submit(struct sonerwal_request *list, size_t length, struct sonerwal_port port, struct sonerwal_open o,
                                             uint64_t now)
 {
-	struct sonerwal_port_step step;
-	struct sonerwal_head head = head_of(&frame);
-	begin(&step, &port);
+	const struct sonerwal_head head = {o.initiator, o.protocol, o.features, o.rate, o.tag, o.destination, o.source};
 	if (length != LENGTH) {
-		step.answer = SONERWAL_REFUSED_LENGTH;
-		return step;
+		return unnamed(port, SONERWAL_REFUSED_LENGTH);
 	}
 	if (!listed(&head)) {
-		step.answer = SONERWAL_REFUSED_UNLISTED;
-		return step;
+		return unnamed(port, SONERWAL_REFUSED_UNLISTED);
 	}
-	if (!rules(list, &port)) {
-		step.answer = SONERWAL_REFUSED_RULES;
-		return step;
+	if (!kept(list, &port)) {
+		return unnamed(port, SONERWAL_REFUSED_RULES);
 	}
 	if (now < port.last) {
-		step.answer = SONERWAL_REFUSED_PAST;
-		return step;
+		return unnamed(port, SONERWAL_REFUSED_PAST);
 	}
 	size_t slot = LENGTH;
 	const struct sonerwal_stamp *loss = NULL;
@@ -164,15 +165,13 @@ struct sonerwal_port_step plain_port_submit(struct sonerwal_request *list, size_
 		if (r->stage == FREE) {
 			slot = slot < LENGTH ? slot : i;
 		} else if (same_key(&r->head, &head)) {
-			step.answer = SONERWAL_REFUSED_PRESENT;
-			return step;
+			return unnamed(port, SONERWAL_REFUSED_PRESENT);
 		} else if (same_nexus(&r->head, &head)) {
 			loss = &r->loss;
 		}
 	}
 	if (slot == LENGTH) {
-		step.answer = SONERWAL_REFUSED_FULL;
-		return step;
+		return unnamed(port, SONERWAL_REFUSED_FULL);
 	}
 	struct sonerwal_request *r = &list[slot];
 	struct sonerwal_stamp timer = loss ? *loss : (struct sonerwal_stamp){0, 0};
@@ -181,9 +180,8 @@ struct sonerwal_port_step plain_port_submit(struct sonerwal_request *list, size_
 	r->head = head;
 	r->submitted = now;
 	r->loss = timer;
-	step.port.last = now;
-	name(&step, SONERWAL_SUBMITTED, slot, PHYS, &head);
-	return step;
+	port.last = now;
+	return named(port, SONERWAL_SUBMITTED, slot, SONERWAL_NO_PHY, &head);
 }
 
 static bool ready(const struct sonerwal_request *r, uint64_t now)
@@ -226,61 +224,54 @@ static uint16_t wait_value(uint64_t elapsed)
 	return milliseconds > 32767 ? 65535 : (uint16_t)(32768 + milliseconds);
 }
 
-static void do_open(struct sonerwal_request *r, size_t slot, struct sonerwal_phy *p, uint8_t phy, uint64_t now, struct sonerwal_port_step *step)
+static struct sonerwal_port_step do_open(struct sonerwal_request *r, size_t slot, struct sonerwal_port port, uint8_t phy, uint64_t now)
 {
-	*p = (struct sonerwal_phy){.stage = OPENING, .slot = (uint8_t)slot};
+	port.phys[phy] = (struct sonerwal_phy){.stage = OPENING, .slot = (uint8_t)slot};
 	r->stage = IN_PROGRESS;
 	r->phy = phy;
 	if (!r->first.set) {
 		r->first = (struct sonerwal_stamp){1, now};
 	}
 	r->awt = wait_value(now - r->first.at);
-	name(step, SONERWAL_OPEN, slot, phy, &r->head);
-	step->frame.pbc = r->pbc;
-	step->frame.awt = r->awt;
+	struct sonerwal_port_step step = named(port, SONERWAL_OPEN, slot, phy, &r->head);
+	step.frame.pbc = r->pbc;
+	step.frame.awt = r->awt;
+	return step;
 }
 
 struct sonerwal_port_step plain_port_choose(struct sonerwal_request *list, size_t length, struct sonerwal_port port, uint64_t now)
 {
-	struct sonerwal_port_step step;
-	begin(&step, &port);
 	if (length != LENGTH) {
-		step.answer = SONERWAL_REFUSED_LENGTH;
-		return step;
+		return unnamed(port, SONERWAL_REFUSED_LENGTH);
 	}
-	if (!rules(list, &port)) {
-		step.answer = SONERWAL_REFUSED_RULES;
-		return step;
+	if (!kept(list, &port)) {
+		return unnamed(port, SONERWAL_REFUSED_RULES);
 	}
 	if (now < port.last) {
-		step.answer = SONERWAL_REFUSED_PAST;
-		return step;
+		return unnamed(port, SONERWAL_REFUSED_PAST);
 	}
-	int found = 0;
+	int step = 0;
 	size_t slot = 0;
 	uint8_t phy = 0;
 	for (size_t i = 0; i < LENGTH; i++) {
 		uint8_t by;
-		int can;
-		if (ready(&list[i], now) && (!found || list[i].submitted < list[slot].submitted) && (can = way(&port, &list[i], &by))) {
-			found = can;
+		int found;
+		if (ready(&list[i], now) && (!step || list[i].submitted < list[slot].submitted) && (found = way(&port, &list[i], &by))) {
+			step = found;
 			slot = i;
 			phy = by;
 		}
 	}
-	step.port.last = now;
-	if (!found) {
-		step.answer = SONERWAL_NOTHING;
-		return step;
+	port.last = now;
+	if (!step) {
+		return unnamed(port, SONERWAL_NOTHING);
 	}
 	struct sonerwal_request *r = &list[slot];
-	struct sonerwal_phy *p = &step.port.phys[phy];
-	if (found == SONERWAL_OPEN) {
-		do_open(r, slot, p, phy, now, &step);
-		return step;
+	struct sonerwal_phy *p = &port.phys[phy];
+	if (step == SONERWAL_OPEN) {
+		return do_open(r, slot, port, phy, now);
 	}
-	name(&step, found, slot, phy, &r->head);
-	if (found == SONERWAL_SEND) {
+	if (step == SONERWAL_SEND) {
 		p->stage = FRAME_OUT;
 		p->slot = (uint8_t)slot;
 		r->stage = IN_PROGRESS;
@@ -290,36 +281,36 @@ struct sonerwal_port_step plain_port_choose(struct sonerwal_request *list, size_
 		p->slot = LENGTH;
 		r->closed = 1;
 	}
-	return step;
+	return named(port, (uint8_t)step, slot, phy, &r->head);
 }
 
 struct sonerwal_port_step plain_port_enable(struct sonerwal_request *list, size_t length, struct sonerwal_port port, uint8_t phy, uint64_t now)
 {
-	struct sonerwal_port_step step;
-	begin(&step, &port);
 	if (length != LENGTH) {
-		step.answer = SONERWAL_REFUSED_LENGTH;
-	} else if (!rules(list, &port)) {
-		step.answer = SONERWAL_REFUSED_RULES;
-	} else if (phy >= port.count) {
-		step.answer = SONERWAL_REFUSED_PHY;
-	} else if (now < port.last) {
-		step.answer = SONERWAL_REFUSED_PAST;
-	} else if (port.phys[phy].stage != DISABLED) {
-		step.answer = SONERWAL_REFUSED_UNFIT;
-	} else {
-		step.port.last = now;
-		step.port.phys[phy] = (struct sonerwal_phy){.stage = UNCONNECTED, .slot = LENGTH};
+		return unnamed(port, SONERWAL_REFUSED_LENGTH);
 	}
-	return step;
+	if (!kept(list, &port)) {
+		return unnamed(port, SONERWAL_REFUSED_RULES);
+	}
+	if (phy >= port.count) {
+		return unnamed(port, SONERWAL_REFUSED_PHY);
+	}
+	if (now < port.last) {
+		return unnamed(port, SONERWAL_REFUSED_PAST);
+	}
+	if (port.phys[phy].stage != DISABLED) {
+		return unnamed(port, SONERWAL_REFUSED_UNFIT);
+	}
+	port.last = now;
+	port.phys[phy] = (struct sonerwal_phy){.stage = UNCONNECTED, .slot = LENGTH};
+	return unnamed(port, SONERWAL_OK);
 }
 
-struct sonerwal_port_step plain_port_crossing(struct sonerwal_request *list, size_t length, struct sonerwal_port port, uint64_t now)
+struct sonerwal_port_step plain_port_crossing(struct sonerwal_request *list, size_t length, struct sonerwal_port port, uint8_t phy, uint64_t now)
 {
-	struct sonerwal_port_step step;
 	(void)list;
 	(void)length;
-	begin(&step, &port);
-	step.port.last = now;
-	return step;
+	(void)phy;
+	(void)now;
+	return unnamed(port, SONERWAL_OK);
 }

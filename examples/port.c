@@ -2,22 +2,34 @@
  * A target port's day, call by call: what a board asks of the port and reports to it, and what the port answers, in document 01's
  * words. Time is in microseconds.
  */
-#include "../tests/ports.h"
-
 #include <inttypes.h>
 #include <stdarg.h>
 #include <stdbool.h>
 #include <stdio.h>
 #include <stdlib.h>
 
-enum { SMP, SSP, STP };
+#include "sonerwal.h"
+
+enum { SLOTS = SONERWAL_SLOTS, SMP = SONERWAL_PROTOCOL_SMP, SSP = SONERWAL_PROTOCOL_SSP, STP = SONERWAL_PROTOCOL_STP };
 
 /* Not in document 01. */
-enum { PORT_LAYER_REQUEST = REASONS };
+enum { PORT_LAYER_REQUEST = SONERWAL_REASON_BREAK_RECEIVED + 1 };
 
 static const char *const words[] = {
-	"Taken", "Submitted", "Nothing", "Send", "Open", "Close", "Stop Arb", "Retried", "Waiting", "Cancel Acknowledged", "Ended",
-	"I_T Nexus Loss", "Connection Lost", "Status", "Refused",
+	[SONERWAL_OK] = "Taken",
+	[SONERWAL_SUBMITTED] = "Submitted",
+	[SONERWAL_NOTHING] = "Nothing",
+	[SONERWAL_SEND] = "Send",
+	[SONERWAL_OPEN] = "Open",
+	[SONERWAL_CLOSE] = "Close",
+	[SONERWAL_STOP_ARB] = "Stop Arb",
+	[SONERWAL_RETRIED] = "Retried",
+	[SONERWAL_WAITING] = "Waiting",
+	[SONERWAL_CANCEL_ACKNOWLEDGED] = "Cancel Acknowledged",
+	[SONERWAL_ENDED] = "Ended",
+	[SONERWAL_NEXUS_LOSS] = "I_T Nexus Loss",
+	[SONERWAL_CONNECTION_LOST] = "Connection Lost",
+	[SONERWAL_STATUS] = "Status",
 };
 
 static const char *const reasons[] = {
@@ -60,34 +72,40 @@ static void remark(const char *text)
 	printf("             (%s)\n", text);
 }
 
-static void print_request(const struct sonerwal_open *frame)
+static void print_request(const struct sonerwal_open *head)
 {
-	printf("%s %c %u", protocols[frame->protocol], (char)(frame->destination - hosts), frame->tag);
+	printf("%s %c %u", protocols[head->protocol], (char)(head->destination - hosts), head->tag);
 }
 
-static void print_answer(const struct sonerwal_port_step *step)
+static bool is_refused(const struct sonerwal_port_step *reply)
+{
+	return reply->answer >= SONERWAL_REFUSED_LENGTH && reply->answer <= SONERWAL_REFUSED_FULL;
+}
+
+static void print_answer(const struct sonerwal_port_step *reply)
 {
 	const char *between = ": ";
-	enum word word = word_of(step->answer);
-	printf("%s", words[word]);
-	if (word == REFUSED) {
-		printf(" %u: %s", step->answer, refusals[step->answer]);
-	} else if (word == ENDED) {
-		printf(", %s", reasons[step->detail]);
-	} else if (word == STATUS) {
-		printf(" %02Xh", step->detail);
+	if (is_refused(reply)) {
+		printf("Refused %u: %s", reply->answer, refusals[reply->answer]);
+	} else {
+		printf("%s", words[reply->answer]);
 	}
-	if (step->slot != NO_SLOT) {
+	if (reply->answer == SONERWAL_ENDED) {
+		printf(", %s", reasons[reply->detail]);
+	} else if (reply->answer == SONERWAL_STATUS) {
+		printf(" %02Xh", reply->detail);
+	}
+	if (reply->slot != SONERWAL_NO_SLOT) {
 		printf("%s", between);
-		print_request(&step->frame);
-		printf(", slot %u", step->slot);
+		print_request(&reply->frame);
+		printf(", slot %u", reply->slot);
 		between = ", ";
 	}
-	if (step->phy != NO_PHY) {
-		printf("%sphy %u", between, step->phy);
+	if (reply->phy != SONERWAL_NO_PHY) {
+		printf("%sphy %u", between, reply->phy);
 	}
-	if (word == OPEN) {
-		printf(", AWT %u, PBC %u", step->frame.awt, step->frame.pbc);
+	if (reply->answer == SONERWAL_OPEN) {
+		printf(", AWT %u, PBC %u", reply->frame.awt, reply->frame.pbc);
 	}
 	printf("\n");
 }
@@ -111,7 +129,7 @@ static void tell(uint64_t now, const struct sonerwal_port_step *reply, const cha
 static void setup(uint8_t count, uint16_t loss)
 {
 	struct sonerwal_port_step reply = sonerwal_port_setup(list, SLOTS, count, loss);
-	if (reply.answer == SONERWAL_OK) {
+	if (!is_refused(&reply)) {
 		port = reply.port;
 	}
 	tell(0, &reply, "setup: %u phy%s, loss time %u ms", count, count == 1 ? "" : "s", loss);
@@ -243,43 +261,43 @@ static void whose_turn(void)
 static void reasons_told(void)
 {
 	chapter("3. Opens that fail: five reasons are retried after 15 microseconds, five end the request");
-	setup(1, NEVER);
+	setup(1, SONERWAL_LOSS_NEVER);
 	enable(0, 0);
 	submit(100, SSP, 'A', 1);
 	choose(100);
-	open_failed(120, 0, PATHWAY_BLOCKED);
+	open_failed(120, 0, SONERWAL_REASON_PATHWAY_BLOCKED);
 	choose(134);
 	choose(135);
 	remark("15 microseconds after the retry; the wait runs from the open at 100");
-	open_failed(150, 0, PATHWAY_BLOCKED);
+	open_failed(150, 0, SONERWAL_REASON_PATHWAY_BLOCKED);
 	choose(32868);
-	open_failed(32900, 0, PATHWAY_BLOCKED);
+	open_failed(32900, 0, SONERWAL_REASON_PATHWAY_BLOCKED);
 	choose(33868);
 	remark("from 32,768 on the wait counts in milliseconds");
-	open_failed(33900, 0, RETRY);
+	open_failed(33900, 0, SONERWAL_REASON_RETRY);
 	choose(33915);
 	remark("Retry resets wait and count");
-	open_failed(33920, 0, PATHWAY_BLOCKED);
+	open_failed(33920, 0, SONERWAL_REASON_PATHWAY_BLOCKED);
 	choose(33935);
-	open_failed(33940, 0, OPEN_TIME_OUT);
+	open_failed(33940, 0, SONERWAL_REASON_OPEN_TIME_OUT);
 	choose(33955);
-	open_failed(33960, 0, NO_DESTINATION);
+	open_failed(33960, 0, SONERWAL_REASON_NO_DESTINATION);
 	choose(33975);
-	open_failed(33980, 0, LINK_RATE);
+	open_failed(33980, 0, SONERWAL_REASON_LINK_RATE_NOT_SUPPORTED);
 	choose(33995);
-	open_failed(34000, 0, BAD_DESTINATION);
+	open_failed(34000, 0, SONERWAL_REASON_BAD_DESTINATION);
 	submit(34010, SSP, 'A', 1);
 	choose(34010);
-	open_failed(34020, 0, WRONG_DESTINATION);
+	open_failed(34020, 0, SONERWAL_REASON_WRONG_DESTINATION);
 	submit(34030, SSP, 'A', 1);
 	choose(34030);
-	open_failed(34040, 0, PROTOCOL);
+	open_failed(34040, 0, SONERWAL_REASON_PROTOCOL_NOT_SUPPORTED);
 	submit(34050, STP, 'A', 1);
 	choose(34050);
-	open_failed(34060, 0, STP_BUSY);
+	open_failed(34060, 0, SONERWAL_REASON_STP_RESOURCES_BUSY);
 	submit(34070, SMP, 'A', 1);
 	choose(34070);
-	open_failed(34080, 0, BREAK_RECEIVED);
+	open_failed(34080, 0, SONERWAL_REASON_BREAK_RECEIVED);
 	choose(34090);
 }
 
@@ -290,25 +308,25 @@ static void blocked(void)
 	enable(0, 0);
 	submit(0, SSP, 'A', 1);
 	choose(0);
-	open_failed(0, 0, PATHWAY_BLOCKED);
+	open_failed(0, 0, SONERWAL_REASON_PATHWAY_BLOCKED);
 	quiet = true;
 	for (uint64_t i = 1; i < 254; i++) {
 		choose(15 * i);
-		open_failed(15 * i, 0, PATHWAY_BLOCKED);
+		open_failed(15 * i, 0, SONERWAL_REASON_PATHWAY_BLOCKED);
 	}
 	quiet = false;
 	remark("and so on, 253 times more");
 	choose(3810);
-	open_failed(3810, 0, PATHWAY_BLOCKED);
+	open_failed(3810, 0, SONERWAL_REASON_PATHWAY_BLOCKED);
 	choose(3825);
-	open_failed(3825, 0, PATHWAY_BLOCKED);
+	open_failed(3825, 0, SONERWAL_REASON_PATHWAY_BLOCKED);
 	choose(3840);
 	remark("no loss timer runs: Pathway Blocked starts none");
 	disable(3850, 0);
 	enable(3860, 0);
 	choose(3870);
 	remark("disabling keeps wait and count");
-	open_failed(3880, 0, BREAK_RECEIVED);
+	open_failed(3880, 0, SONERWAL_REASON_BREAK_RECEIVED);
 }
 
 static void lost_connection(void)
@@ -338,7 +356,7 @@ static void cancelled(void)
 	cancel(11, SSP, 'A', 1);
 	remark("it was opening");
 	cancel(12, SSP, 'A', 1);
-	open_failed(13, 0, OPEN_TIME_OUT);
+	open_failed(13, 0, SONERWAL_REASON_OPEN_TIME_OUT);
 	remark("a retried reason is the end of a cancelled request");
 
 	submit(20, SSP, 'A', 1);
@@ -391,7 +409,7 @@ static void disabled(void)
 
 	submit(10, SSP, 'A', 1);
 	choose(10);
-	open_failed(20, 0, PATHWAY_BLOCKED);
+	open_failed(20, 0, SONERWAL_REASON_PATHWAY_BLOCKED);
 	choose(40);
 	disable(50, 0);
 	remark("it was opening");
@@ -451,23 +469,23 @@ static void nexus_loss(void)
 	submit(100, SSP, 'A', 1);
 	submit(100, SSP, 'A', 2);
 	choose(100);
-	open_failed(1000, 0, NO_DESTINATION);
+	open_failed(1000, 0, SONERWAL_REASON_NO_DESTINATION);
 	remark("A's loss timer starts");
 	choose(1000);
-	open_failed(2999, 0, LINK_RATE);
+	open_failed(2999, 0, SONERWAL_REASON_LINK_RATE_NOT_SUPPORTED);
 	remark("it runs, 1,999 microseconds by now, and isn't started anew");
 	choose(2999);
-	open_failed(3000, 0, OPEN_TIME_OUT);
+	open_failed(3000, 0, SONERWAL_REASON_OPEN_TIME_OUT);
 	remark("2,000 microseconds, and any retried reason will do; the timer runs on for the other request");
 	submit(3010, SSP, 'A', 3);
 	choose(3014);
-	open_failed(3020, 0, PATHWAY_BLOCKED);
+	open_failed(3020, 0, SONERWAL_REASON_PATHWAY_BLOCKED);
 	choose(3020);
-	open_failed(3030, 0, LINK_RATE);
+	open_failed(3030, 0, SONERWAL_REASON_LINK_RATE_NOT_SUPPORTED);
 	remark("a new request fails once: the timer is A's, not its own");
 	submit(3040, SSP, 'A', 4);
 	choose(3040);
-	open_failed(3050, 0, OPEN_TIME_OUT);
+	open_failed(3050, 0, SONERWAL_REASON_OPEN_TIME_OUT);
 	remark("A's last SSP request had left, and the timer with it");
 	cancel(3060, SSP, 'A', 4);
 }
@@ -480,49 +498,49 @@ static void timer_stops(void)
 	submit(0, SSP, 'A', 1);
 	submit(0, SSP, 'A', 2);
 	choose(0);
-	open_failed(10, 0, NO_DESTINATION);
+	open_failed(10, 0, SONERWAL_REASON_NO_DESTINATION);
 	choose(3000);
-	open_failed(3000, 0, RETRY);
+	open_failed(3000, 0, SONERWAL_REASON_RETRY);
 	remark("Retry stops it first, and is a retry");
 	choose(3000);
-	open_failed(6000, 0, OPEN_TIME_OUT);
+	open_failed(6000, 0, SONERWAL_REASON_OPEN_TIME_OUT);
 	choose(6000);
-	open_failed(6010, 0, NO_DESTINATION);
+	open_failed(6010, 0, SONERWAL_REASON_NO_DESTINATION);
 	choose(6015);
-	open_failed(9000, 0, PROTOCOL);
+	open_failed(9000, 0, SONERWAL_REASON_PROTOCOL_NOT_SUPPORTED);
 	remark("stopped, for the request that stays");
 	choose(9000);
-	open_failed(9000, 0, OPEN_TIME_OUT);
+	open_failed(9000, 0, SONERWAL_REASON_OPEN_TIME_OUT);
 	submit(9000, SSP, 'A', 2);
 	choose(9000);
-	open_failed(9010, 0, LINK_RATE);
+	open_failed(9010, 0, SONERWAL_REASON_LINK_RATE_NOT_SUPPORTED);
 	choose(9015);
 	opened(12000, 0);
 	remark("stopped, late as it is");
 	frame_status(12001, 0, 0x00);
 	closed(12002, 0);
 	choose(12010);
-	open_failed(12010, 0, OPEN_TIME_OUT);
+	open_failed(12010, 0, SONERWAL_REASON_OPEN_TIME_OUT);
 	choose(12025);
-	open_failed(12025, 0, NO_DESTINATION);
+	open_failed(12025, 0, SONERWAL_REASON_NO_DESTINATION);
 	submit(12030, SSP, 'A', 1);
 	choose(12030);
-	open_failed(15000, 0, STP_BUSY);
+	open_failed(15000, 0, SONERWAL_REASON_STP_RESOURCES_BUSY);
 	remark("stopped");
 	choose(15000);
-	open_failed(15000, 0, OPEN_TIME_OUT);
+	open_failed(15000, 0, SONERWAL_REASON_OPEN_TIME_OUT);
 	choose(15015);
-	open_failed(15015, 0, NO_DESTINATION);
+	open_failed(15015, 0, SONERWAL_REASON_NO_DESTINATION);
 	submit(15020, SSP, 'A', 1);
 	submit(15020, SSP, 'A', 3);
 	choose(15020);
-	open_failed(18000, 0, BAD_DESTINATION);
+	open_failed(18000, 0, SONERWAL_REASON_BAD_DESTINATION);
 	choose(18000);
 	cancel(18001, SSP, 'A', 2);
-	open_failed(18002, 0, NO_DESTINATION);
+	open_failed(18002, 0, SONERWAL_REASON_NO_DESTINATION);
 	remark("Cancel Acknowledged comes before I_T Nexus Loss");
 	choose(18002);
-	open_failed(18003, 0, OPEN_TIME_OUT);
+	open_failed(18003, 0, SONERWAL_REASON_OPEN_TIME_OUT);
 	remark("neither of the two before stopped it");
 }
 
@@ -533,31 +551,31 @@ static void timers_of_ssp(void)
 	enable(0, 0);
 	submit(0, SMP, 'A', 1);
 	choose(0);
-	open_failed(0, 0, NO_DESTINATION);
+	open_failed(0, 0, SONERWAL_REASON_NO_DESTINATION);
 	choose(5000);
-	open_failed(5000, 0, NO_DESTINATION);
+	open_failed(5000, 0, SONERWAL_REASON_NO_DESTINATION);
 	submit(5000, SSP, 'A', 1);
 	choose(5000);
-	open_failed(5000, 0, NO_DESTINATION);
+	open_failed(5000, 0, SONERWAL_REASON_NO_DESTINATION);
 	choose(6000);
-	open_failed(6000, 0, RETRY);
+	open_failed(6000, 0, SONERWAL_REASON_RETRY);
 	remark("the SMP request: A's timer neither stops for it nor ends it");
 	choose(6000);
-	open_failed(6000, 0, NO_DESTINATION);
+	open_failed(6000, 0, SONERWAL_REASON_NO_DESTINATION);
 }
 
 static void never_lost(void)
 {
 	chapter("11. A loss time of 65,535 ms is never");
-	setup(1, NEVER);
+	setup(1, SONERWAL_LOSS_NEVER);
 	enable(0, 0);
 	submit(0, SSP, 'A', 1);
 	choose(0);
-	open_failed(0, 0, NO_DESTINATION);
+	open_failed(0, 0, SONERWAL_REASON_NO_DESTINATION);
 	choose(65535000);
-	open_failed(65535000, 0, NO_DESTINATION);
+	open_failed(65535000, 0, SONERWAL_REASON_NO_DESTINATION);
 	choose(UINT64_C(86400000000));
-	open_failed(UINT64_C(86400000000), 0, LINK_RATE);
+	open_failed(UINT64_C(86400000000), 0, SONERWAL_REASON_LINK_RATE_NOT_SUPPORTED);
 	remark("a day later it is still retried");
 }
 
@@ -596,7 +614,7 @@ static void refused(void)
 	opened(10, 2);
 	choose(9);
 	opened(10, 0);
-	open_failed(10, 0, RETRY);
+	open_failed(10, 0, SONERWAL_REASON_RETRY);
 	frame_status(10, 0, 0x00);
 	closed(10, 0);
 	enable(10, 0);

@@ -1,7 +1,7 @@
 /*
  * Sonerwal: SAS storage logic for C firmware.
  *
- * The archive has five parts: the OPEN and DATA frames, the read transfer, the expander link (XL) and the port. Each is proved
+ * The archive has the OPEN and DATA frames, the read transfer, the expander link (XL) and the port. Each is proved
  * against document 01, the owner's scope, which this header names beside each rule as "01, section".
  *
  * LINKING
@@ -38,10 +38,10 @@
  *
  * ANSWERS (01, Refusal numbers)
  *
- * A call answers one byte, enum sonerwal_answer: SONERWAL_OK, a refusal of 1 to 10, or from 16 on what happened. Where several
- * refusals apply the lowest number is given, but for sonerwal_transfer_next(), which has an order of its own.
- * A refusal gives back the state as it was lent, to the last member, and leaves every lent byte, number and
- * record as it was; so `s = r.state` is right after every call.
+ * A call answers one byte, enum sonerwal_answer: SONERWAL_OK, a refusal of 1 to 10, or from 16 on what happened.
+ * Where several refusals apply the lowest number is given, but for sonerwal_transfer_next(), which has an order
+ * of its own. A refusal gives back the state as it was lent, to the last member, and leaves every lent byte,
+ * number and record as it was; so `s = r.state` is right after every call.
  */
 #ifndef SONERWAL_H
 #define SONERWAL_H
@@ -87,6 +87,21 @@ enum sonerwal_answer {
 	SONERWAL_DONE = 19,  /* delivered: every requested byte was ACKed */
 	SONERWAL_FAIL = 20,  /* every resend is used */
 	SONERWAL_END = 21,   /* NEXUS or CANCEL ended it */
+
+	/* 01, Port */
+	SONERWAL_SUBMITTED = 32,           /* the request is in the list */
+	SONERWAL_NOTHING = 33,             /* no request and phy qualify */
+	SONERWAL_SEND = 34,                /* the frame of the request goes, on the phy */
+	SONERWAL_OPEN = 35,                /* the phy transmits the OPEN in frame */
+	SONERWAL_CLOSE = 36,               /* the phy closes */
+	SONERWAL_STOP_ARB = 37,            /* the phy stops its OPEN */
+	SONERWAL_RETRIED = 38,             /* the open failed; the request waits, and not less than 15 microseconds */
+	SONERWAL_WAITING = 39,             /* the phy was disabled; the request waits again */
+	SONERWAL_CANCEL_ACKNOWLEDGED = 40, /* from here to STATUS: the request has left the list */
+	SONERWAL_ENDED = 41,               /* detail: the reason, which isn't retried */
+	SONERWAL_NEXUS_LOSS = 42,          /* I_T Nexus Loss */
+	SONERWAL_CONNECTION_LOST = 43,
+	SONERWAL_STATUS = 44, /* detail: the byte of frame status */
 
 	/* 01, XL, Link status */
 	SONERWAL_READY = 48,
@@ -539,7 +554,8 @@ SONERWAL_SIZE(action, 2);
  *   close       1 if CLOSE was received, else 0
  *   blocked     1 if the last Arbitrating of this stay in XL1 was Blocked On Partial, else 0
  *
- * Its rules: every number in its range, every zero member 0, held and heard of OPEN's fields, and in XL1 to XL6 a frame is held.
+ * Its rules: every number in its range, every zero member 0, held and heard of OPEN's fields, and in XL1 to XL6 a
+ * frame is held.
  */
 struct sonerwal_link {
 	struct sonerwal_open held;
@@ -572,7 +588,8 @@ static inline uint8_t sonerwal_link_keep(struct sonerwal_link *s, struct sonerwa
 	return step.answer;
 }
 
-/* The frame that an OPEN, a SendOpen, a BackoffReversePath or a RequestPath of the step speaks of: the one that the new state holds. */
+/* The frame that an OPEN, a SendOpen, a BackoffReversePath or a RequestPath of the step speaks of: the one that the
+ * new state holds. */
 static inline const struct sonerwal_open *sonerwal_link_frame(const struct sonerwal_link_step *step)
 {
 	return &step->state.held;
@@ -602,6 +619,245 @@ struct sonerwal_link_step sonerwal_link_receive(struct sonerwal_link s, const ui
  * SONERWAL_REFUSED_RULES: s breaks its rules. */
 uint8_t sonerwal_link_status(struct sonerwal_link s);
 
+/* ---- Port (01, Port) --------------------------------------------------------------------------------------- */
+
+#define SONERWAL_SLOTS 32u              /* records of the list */
+#define SONERWAL_PHYS 8u                /* of a port, at most */
+#define SONERWAL_NO_SLOT 32u            /* names no slot */
+#define SONERWAL_NO_PHY 8u              /* names no phy */
+#define SONERWAL_LOSS_NEVER 65535u      /* a loss time that never comes */
+#define SONERWAL_RETRY_MICROSECONDS 15u /* that a retried request waits */
+
+enum sonerwal_phy_stage {
+	SONERWAL_PHY_DISABLED = 0,
+	SONERWAL_PHY_UNCONNECTED = 1,
+	SONERWAL_PHY_OPENING = 2,
+	SONERWAL_PHY_IDLE = 3,           /* connected */
+	SONERWAL_PHY_SENDING = 4,        /* connected, with a frame out */
+	SONERWAL_PHY_CLOSING = 5,        /* idle */
+	SONERWAL_PHY_CLOSING_SENDING = 6 /* with a frame out */
+};
+
+enum sonerwal_request_stage {
+	SONERWAL_REQUEST_FREE = 0, /* no request; the record is all zeros */
+	SONERWAL_REQUEST_WAITING = 1,
+	SONERWAL_REQUEST_IN_PROGRESS = 2
+};
+
+/* Why an open failed. */
+enum sonerwal_reason {
+	SONERWAL_REASON_NO_DESTINATION = 0, /* retried; starts the loss timer */
+	SONERWAL_REASON_BAD_DESTINATION = 1,
+	SONERWAL_REASON_WRONG_DESTINATION = 2,
+	SONERWAL_REASON_LINK_RATE_NOT_SUPPORTED = 3, /* CONNECTION RATE NOT SUPPORTED; retried; starts the loss timer */
+	SONERWAL_REASON_PROTOCOL_NOT_SUPPORTED = 4,  /* stops the loss timer */
+	SONERWAL_REASON_PATHWAY_BLOCKED = 5,         /* retried; the wait runs on, and the blocked count grows */
+	SONERWAL_REASON_STP_RESOURCES_BUSY = 6,      /* stops the loss timer */
+	SONERWAL_REASON_RETRY = 7,                   /* retried; stops the loss timer */
+	SONERWAL_REASON_OPEN_TIME_OUT = 8,           /* retried */
+	SONERWAL_REASON_BREAK_RECEIVED = 9
+};
+
+/*
+ * A phy of a port.
+ *
+ *   destination  whom it is connected to, 0 if it isn't
+ *   stage        enum sonerwal_phy_stage
+ *   slot         of the request that it names, 32 if it names none
+ *   protocol     by which it is connected, 0 if it isn't
+ */
+struct sonerwal_phy {
+	uint64_t destination;
+	uint32_t zero4;
+	uint8_t stage;
+	uint8_t slot;
+	uint8_t protocol;
+	uint8_t zero1;
+};
+SONERWAL_SIZE(phy, 16);
+
+/*
+ * A port.
+ *
+ *   last   the time of the last call, in microseconds
+ *   phys   those that it has, from 0 on; the others are disabled
+ *   loss   loss time in milliseconds, 1 to 65,535; 65,535: never
+ *   count  its phys, 1 to 8
+ *
+ * Its rules, and those of the list beside it: every zero member 0; fields as in OPEN; no two requests share
+ * destination, protocol and tag; a request in progress and its phy name each other; an opening phy or one with a
+ * frame out names one, a closing one may, no other does; only such requests are cancelled; no time stamp is past
+ * the last time; one loss timer at most per destination, only with an SSP request present. A port of all zeros,
+ * one before setup, breaks them.
+ */
+struct sonerwal_port {
+	uint64_t last;
+	struct sonerwal_phy phys[8];
+	uint32_t zero4;
+	uint16_t loss;
+	uint8_t count;
+	uint8_t zero1;
+};
+SONERWAL_SIZE(port, 144);
+
+/* What an OPEN says of its request; features and rate are no more than a byte, as in struct sonerwal_open. */
+struct sonerwal_head {
+	uint8_t initiator;
+	uint8_t protocol;
+	uint16_t features;
+	uint16_t rate;
+	uint16_t tag;
+	uint64_t destination;
+	uint64_t source;
+};
+SONERWAL_SIZE(head, 24);
+
+/* A time in microseconds that may not have come. */
+struct sonerwal_stamp {
+	uint64_t set; /* 1 once it came, else 0 */
+	uint64_t at;
+};
+SONERWAL_SIZE(stamp, 16);
+
+/*
+ * A record of the list of 32 that the caller lends to every call of the port. A free one is all zeros; setup frees
+ * them all.
+ *
+ *   stage      enum sonerwal_request_stage
+ *   phy        that a request in progress is on, else 0
+ *   cancelled  1 once it was, else 0
+ *   pbc        its pathway blocked count
+ *   closed     1 once choose closed a phy for it, else 0
+ *   awt        of its last OPEN since its last reset, 0 if there was none
+ *   head       as it was submitted
+ *   submitted  when, in microseconds
+ *   retry      its last retry
+ *   first      its first open after its last reset
+ *   loss       the start of its destination's loss timer, in every SSP request to it
+ */
+struct sonerwal_request {
+	uint8_t stage;
+	uint8_t phy;
+	uint8_t cancelled;
+	uint8_t pbc;
+	uint16_t closed;
+	uint16_t awt;
+	struct sonerwal_head head;
+	uint64_t submitted;
+	struct sonerwal_stamp retry;
+	struct sonerwal_stamp first;
+	struct sonerwal_stamp loss;
+};
+SONERWAL_SIZE(request, 88);
+
+/*
+ * What a call of the port gives: the port to go on with, and the answer.
+ *
+ *   frame   with SONERWAL_OPEN the frame to transmit; else the head of the request that is named, with awt and pbc 0;
+ *           zeros where none is named
+ *   detail  SONERWAL_ENDED: enum sonerwal_reason; SONERWAL_STATUS: the byte; else 0
+ *   slot    of the request that is named, 32 if none is
+ *   phy     that is named, 8 if none is
+ *
+ * With a refusal the port and the list are as they were lent, and nothing is named.
+ */
+struct sonerwal_port_step {
+	struct sonerwal_port port;
+	struct sonerwal_open frame;
+	uint8_t answer;
+	uint8_t detail;
+	uint8_t slot;
+	uint8_t phy;
+};
+
+/* Keeps the port that a call gave, and says its answer. */
+static inline uint8_t sonerwal_port_keep(struct sonerwal_port *port, const struct sonerwal_port_step *step)
+{
+	*port = step->port;
+	return step->answer;
+}
+
+/*
+ * The ten calls. length is that of the list, in records; now is the time in microseconds, which never goes back.
+ * Refusals, the lowest that holds:
+ *   SONERWAL_REFUSED_LENGTH    length isn't 32
+ *   SONERWAL_REFUSED_UNLISTED  submit: head isn't OPEN's; cancel: protocol is above 2; open_failed: reason is above 9
+ *   SONERWAL_REFUSED_RULES     setup: count isn't 1 to 8, or loss is 0; else port or list breaks its rules
+ *   SONERWAL_REFUSED_PHY       phy isn't below port.count
+ *   SONERWAL_REFUSED_PAST      now is before port.last
+ *   SONERWAL_REFUSED_UNFIT     beside each call below
+ *   SONERWAL_REFUSED_PRESENT, _FULL  submit alone
+ */
+
+/* A port of count phys, all disabled, and an empty list. A refused setup gives a port of zeros. */
+struct sonerwal_port_step sonerwal_port_setup(struct sonerwal_request *list, size_t length, uint8_t count, uint16_t loss);
+
+/* A request for a frame to be sent: SONERWAL_SUBMITTED. pbc and awt of head aren't looked at. */
+struct sonerwal_port_step sonerwal_port_submit(struct sonerwal_request *list, size_t length, struct sonerwal_port port,
+                                               struct sonerwal_open head, uint64_t now);
+
+/* The request isn't wanted any more: SONERWAL_CANCEL_ACKNOWLEDGED while it waits, SONERWAL_STOP_ARB while its phy opens,
+ * SONERWAL_CLOSE while that is connected. Unfit: it is absent, or already cancelled. */
+struct sonerwal_port_step sonerwal_port_cancel(struct sonerwal_request *list, size_t length, struct sonerwal_port port,
+                                               uint64_t destination, uint8_t protocol, uint16_t tag, uint64_t now);
+
+/* What to do next: SONERWAL_SEND, SONERWAL_OPEN or SONERWAL_CLOSE for the first waiting request that has a phy; else
+ * SONERWAL_NOTHING. */
+struct sonerwal_port_step sonerwal_port_choose(struct sonerwal_request *list, size_t length, struct sonerwal_port port,
+                                               uint64_t now);
+
+/* OPEN_ACCEPT came: SONERWAL_SEND, or SONERWAL_CLOSE if the request was cancelled. Unfit: the phy isn't opening. */
+struct sonerwal_port_step sonerwal_port_opened(struct sonerwal_request *list, size_t length, struct sonerwal_port port,
+                                               uint8_t phy, uint64_t now);
+
+/* OPEN_REJECT, a time-out or BREAK came: SONERWAL_RETRIED, SONERWAL_ENDED, SONERWAL_NEXUS_LOSS or
+ * SONERWAL_CANCEL_ACKNOWLEDGED. Unfit: the phy isn't opening. */
+struct sonerwal_port_step sonerwal_port_open_failed(struct sonerwal_request *list, size_t length,
+                                                    struct sonerwal_port port, uint8_t phy, uint8_t reason,
+                                                    uint64_t now);
+
+/* The frame went, or didn't: SONERWAL_STATUS with the byte, or SONERWAL_CANCEL_ACKNOWLEDGED. Unfit: no frame is out. */
+struct sonerwal_port_step sonerwal_port_frame_status(struct sonerwal_request *list, size_t length,
+                                                     struct sonerwal_port port, uint8_t phy, uint8_t status,
+                                                     uint64_t now);
+
+/* The connection is gone: SONERWAL_CONNECTION_LOST or SONERWAL_CANCEL_ACKNOWLEDGED if a frame was out, else SONERWAL_OK.
+ * Unfit: the phy is neither connected nor closing. */
+struct sonerwal_port_step sonerwal_port_closed(struct sonerwal_request *list, size_t length, struct sonerwal_port port,
+                                               uint8_t phy, uint64_t now);
+
+/* A phy is taken into service: SONERWAL_OK. Unfit: it is enabled. */
+struct sonerwal_port_step sonerwal_port_enable(struct sonerwal_request *list, size_t length, struct sonerwal_port port,
+                                               uint8_t phy, uint64_t now);
+
+/* And out of it: SONERWAL_WAITING or SONERWAL_CANCEL_ACKNOWLEDGED if it named a request, else SONERWAL_OK. Unfit: it is
+ * disabled. */
+struct sonerwal_port_step sonerwal_port_disable(struct sonerwal_request *list, size_t length, struct sonerwal_port port,
+                                                uint8_t phy, uint64_t now);
+
+/*
+ * HOW THE PARTS WORK TOGETHER
+ *
+ * examples/board.c is a whole target in small. What the board does at the port's answers:
+ *
+ *   OPEN             writes r.frame by sonerwal_open_put() and transmits the 28 bytes on r.phy; then opened or
+ *                    open_failed
+ *   SEND             makes the frame of the request that r.slot names, now and not before, and sends it on r.phy:
+ *                    sonerwal_transfer_next() into sonerwal_data_size(sonerwal_transfer_length(s)) bytes; then
+ *                    frame_status
+ *   CLOSE, STOP_ARB  tells phy r.phy; then closed; or open_failed or opened
+ *   STATUS           the request is gone, and nothing is called yet: ACK, NAK, the ACK/NAK timeout and a connection
+ *                    lost after it come from the link layer, and are _ack, _nak, _timeout and _lost of the
+ *                    transfer that has an answer due
+ *   CONNECTION_LOST  _lost of the transfer; refused as unfit where nothing is unanswered, which does no harm
+ *   WAITING          the same if a frame was out; it is made anew at the next SEND
+ *   NEXUS_LOSS       _nexus
+ *   CANCEL_ACKNOWLEDGED, ENDED
+ *                    _cancel; after ENDED the frame never went, and a board may submit again instead
+ *   RETRIED, NOTHING, SUBMITTED, OK
+ *                    chooses again at the next event, after RETRIED 15 microseconds later
+ */
+
 /* ---- For logs ---------------------------------------------------------------------------------------------- */
 
 /* An answer's word in small letters; "refused: " and what for; "unnamed" for a number that is no answer. */
@@ -625,6 +881,19 @@ static inline const char *sonerwal_answer_name(uint8_t answer)
 	case SONERWAL_DONE: return "done";
 	case SONERWAL_FAIL: return "fail";
 	case SONERWAL_END: return "end";
+	case SONERWAL_SUBMITTED: return "submitted";
+	case SONERWAL_NOTHING: return "nothing";
+	case SONERWAL_SEND: return "send";
+	case SONERWAL_OPEN: return "open";
+	case SONERWAL_CLOSE: return "close";
+	case SONERWAL_STOP_ARB: return "stop arb";
+	case SONERWAL_RETRIED: return "retried";
+	case SONERWAL_WAITING: return "waiting";
+	case SONERWAL_CANCEL_ACKNOWLEDGED: return "cancel acknowledged";
+	case SONERWAL_ENDED: return "ended";
+	case SONERWAL_NEXUS_LOSS: return "i_t nexus loss";
+	case SONERWAL_CONNECTION_LOST: return "connection lost";
+	case SONERWAL_STATUS: return "status";
 	case SONERWAL_READY: return "ready";
 	case SONERWAL_PARTIAL: return "partial";
 	case SONERWAL_BLOCKED_PARTIAL: return "blocked partial";

@@ -10,52 +10,48 @@ struct field {
 	size_t at, width;
 };
 
-#define FIELD(type, member) {#member, offsetof(struct sonerwal_##type, member), sizeof(((struct sonerwal_##type *)0)->member)}
+#define FIELD(type, member) {#member, offsetof(struct type, member), sizeof(((struct type *)0)->member)}
 
-static const struct field port_fields[] = {
-	FIELD(port, last), FIELD(port, zero4), FIELD(port, loss), FIELD(port, count), FIELD(port, zero1),
-};
+static const struct field port_fields[] = {FIELD(sonerwal_port, count), FIELD(sonerwal_port, loss), FIELD(sonerwal_port, last), FIELD(sonerwal_port, zero4), FIELD(sonerwal_port, zero1)};
 
-static const struct field phy_fields[] = {
-	FIELD(phy, destination), FIELD(phy, zero4), FIELD(phy, stage), FIELD(phy, slot), FIELD(phy, protocol), FIELD(phy, zero1),
-};
+static const struct field phy_fields[] = {FIELD(sonerwal_phy, stage), FIELD(sonerwal_phy, slot), FIELD(sonerwal_phy, protocol), FIELD(sonerwal_phy, destination), FIELD(sonerwal_phy, zero4), FIELD(sonerwal_phy, zero1)};
 
 static const struct field request_fields[] = {
-	FIELD(request, stage),
-	FIELD(request, phy),
-	FIELD(request, cancelled),
-	FIELD(request, closed),
-	FIELD(request, pbc),
-	FIELD(request, awt),
-	FIELD(request, head.initiator),
-	FIELD(request, head.protocol),
-	FIELD(request, head.features),
-	FIELD(request, head.rate),
-	FIELD(request, head.tag),
-	FIELD(request, head.destination),
-	FIELD(request, head.source),
-	FIELD(request, submitted),
-	FIELD(request, retry.set),
-	FIELD(request, retry.at),
-	FIELD(request, first.set),
-	FIELD(request, first.at),
-	FIELD(request, loss.set),
-	FIELD(request, loss.at),
+	FIELD(sonerwal_request, stage),
+	FIELD(sonerwal_request, phy),
+	FIELD(sonerwal_request, cancelled),
+	FIELD(sonerwal_request, closed),
+	FIELD(sonerwal_request, pbc),
+	FIELD(sonerwal_request, awt),
+	FIELD(sonerwal_request, head.initiator),
+	FIELD(sonerwal_request, head.protocol),
+	FIELD(sonerwal_request, head.features),
+	FIELD(sonerwal_request, head.rate),
+	FIELD(sonerwal_request, head.tag),
+	FIELD(sonerwal_request, head.destination),
+	FIELD(sonerwal_request, head.source),
+	FIELD(sonerwal_request, submitted),
+	FIELD(sonerwal_request, retry.set),
+	FIELD(sonerwal_request, retry.at),
+	FIELD(sonerwal_request, first.set),
+	FIELD(sonerwal_request, first.at),
+	FIELD(sonerwal_request, loss.set),
+	FIELD(sonerwal_request, loss.at),
 };
 
 static const struct field frame_fields[] = {
-	FIELD(open, destination),
-	FIELD(open, source),
-	FIELD(open, zero4),
-	FIELD(open, tag),
-	FIELD(open, awt),
-	FIELD(open, zero2),
-	FIELD(open, initiator),
-	FIELD(open, protocol),
-	FIELD(open, features),
-	FIELD(open, rate),
-	FIELD(open, pbc),
-	FIELD(open, zero1),
+	FIELD(sonerwal_open, initiator),
+	FIELD(sonerwal_open, protocol),
+	FIELD(sonerwal_open, features),
+	FIELD(sonerwal_open, rate),
+	FIELD(sonerwal_open, tag),
+	FIELD(sonerwal_open, destination),
+	FIELD(sonerwal_open, source),
+	FIELD(sonerwal_open, pbc),
+	FIELD(sonerwal_open, awt),
+	FIELD(sonerwal_open, zero4),
+	FIELD(sonerwal_open, zero2),
+	FIELD(sonerwal_open, zero1),
 };
 
 static uint64_t get(const void *from, const struct field *field)
@@ -85,7 +81,8 @@ static void put(void *to, const struct field *field, uint64_t value)
 	uint8_t one = (uint8_t)value;
 	uint16_t two = (uint16_t)value;
 	uint32_t four = (uint32_t)value;
-	memcpy(at, field->width == 1 ? (void *)&one : field->width == 2 ? (void *)&two : field->width == 4 ? (void *)&four : (void *)&value, field->width);
+	const void *from = field->width == 1 ? (void *)&one : field->width == 2 ? (void *)&two : field->width == 4 ? (void *)&four : (void *)&value;
+	memcpy(at, from, field->width);
 }
 
 static bool means_nothing(const void *thing, const struct field *fields, const struct field *field)
@@ -130,10 +127,8 @@ static void compare(struct difference *d, const char *what, const void *expected
 
 void compare_answer(struct difference *d, const struct said *expected, const struct sonerwal_port_step *found)
 {
-	bool refused = expected->word == REFUSED;
-	unsigned happened = expected->word == TAKEN ? SONERWAL_OK : SONERWAL_SUBMITTED + (expected->word - SUBMITTED);
-	differ(d, "answer", refused ? expected->detail : happened, found->answer);
-	differ(d, "detail", refused ? 0 : expected->detail, found->detail);
+	differ(d, "answer", answer_of((enum word)expected->word, expected->detail), found->answer);
+	differ(d, "detail", detail_of((enum word)expected->word, expected->detail), found->detail);
 	differ(d, "slot", expected->slot, found->slot);
 	differ(d, "phy", expected->phy, found->phy);
 	compare(d, "frame", &expected->frame, &found->frame, frame_fields, COUNT(frame_fields), false);

@@ -1,4 +1,4 @@
-/* The port's states and answers field by field: to compare two, and to change one. Every byte is a field's. */
+/* The port's states and answers field by field: to compare two, and to change one. No byte lies between members. */
 #ifndef SONERWAL_TESTS_PORT_FIELDS_H
 #define SONERWAL_TESTS_PORT_FIELDS_H
 

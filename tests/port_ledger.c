@@ -75,14 +75,13 @@ static bool enter(struct key key, uint8_t slot)
 
 bool ledger_hear(enum call call, const struct sonerwal_port_step *reply)
 {
-	enum word word = word_of(reply->answer);
 	struct key key = {reply->frame.destination, reply->frame.protocol, reply->frame.tag};
 	unsigned i = entry_of(key);
 	int phy = reply->phy == NO_PHY ? ON_NO_PHY : reply->phy;
-	if (word == REFUSED || reply->slot == NO_SLOT) {
+	if (reply->slot == NO_SLOT) {
 		return true;
 	}
-	if (word == SUBMITTED) {
+	if (reply->answer == SONERWAL_SUBMITTED) {
 		return enter(key, reply->slot);
 	}
 	if (i == live || ledger[i].slot != reply->slot || (phy != ON_NO_PHY && is_phy_taken(phy, i))) {
@@ -90,15 +89,15 @@ bool ledger_hear(enum call call, const struct sonerwal_port_step *reply)
 	}
 	if (call == CHOOSE) {
 		bool waited = ledger[i].phy == ON_NO_PHY;
-		ledger[i].phy = word == CLOSE ? ON_NO_PHY : phy;
+		ledger[i].phy = reply->answer == SONERWAL_CLOSE ? ON_NO_PHY : phy;
 		return waited;
 	}
 	if (ledger[i].phy != phy) {
 		return false;
 	}
-	if (word == RETRIED || word == WAITING) {
+	if (reply->answer == SONERWAL_RETRIED || reply->answer == SONERWAL_WAITING) {
 		ledger[i].phy = ON_NO_PHY;
-	} else if (word >= CANCEL_ACKNOWLEDGED) {
+	} else if (reply->answer >= SONERWAL_CANCEL_ACKNOWLEDGED) {
 		ledger[i] = ledger[--live];
 		ended++;
 	}

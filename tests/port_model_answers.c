@@ -16,7 +16,7 @@ struct said model_about(const struct model *m, enum word word, const struct item
 	struct said said = model_nameless(word);
 	if (item) {
 		said.slot = item->slot;
-		said.frame = frame_of(item->head);
+		said.frame = open_of(item->head);
 	}
 	if (line) {
 		said.phy = model_number_of(m, line);

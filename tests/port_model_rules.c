@@ -29,6 +29,9 @@ static unsigned phy_breaks(const struct sonerwal_port *port, const struct sonerw
 	if (phy->protocol > 2) {
 		broken |= 1u << RULE_FIELDS;
 	}
+	if (phy->zero4 != 0 || phy->zero1 != 0) {
+		broken |= 1u << RULE_ZEROS;
+	}
 	if (opening || out ? !names : names && !closing) {
 		broken |= 1u << RULE_WHO;
 	}

@@ -29,16 +29,16 @@ struct world {
 	bool odd; /* it came from a lent state that no call leaves */
 };
 
-/* Of a frame that is given to submit, only the head is looked at. */
-static struct sonerwal_open any_frame(struct sonerwal_head head)
+/* Of the head that is submitted, what isn't looked at holds anything. */
+static struct sonerwal_open any_submission(struct sonerwal_head head)
 {
-	struct sonerwal_open frame = frame_of(head);
-	frame.pbc = (uint8_t)noise();
-	frame.awt = (uint16_t)noise();
-	frame.zero4 = (uint32_t)noise();
-	frame.zero2 = (uint16_t)noise();
-	frame.zero1 = (uint8_t)noise();
-	return frame;
+	struct sonerwal_open open = open_of(head);
+	noise_fill(&open.zero4, sizeof open.zero4);
+	noise_fill(&open.zero2, sizeof open.zero2);
+	noise_fill(&open.zero1, sizeof open.zero1);
+	noise_fill(&open.awt, sizeof open.awt);
+	noise_fill(&open.pbc, sizeof open.pbc);
+	return open;
 }
 
 static struct sonerwal_port_step call_port(struct world *w, const struct order *o)
@@ -47,7 +47,7 @@ static struct sonerwal_port_step call_port(struct world *w, const struct order *
 	case SETUP:
 		return sonerwal_port_setup(w->list, o->length, o->count, o->loss);
 	case SUBMIT:
-		return sonerwal_port_submit(w->list, o->length, w->port, any_frame(o->head), o->now);
+		return sonerwal_port_submit(w->list, o->length, w->port, any_submission(o->head), o->now);
 	case CANCEL:
 		return sonerwal_port_cancel(w->list, o->length, w->port, o->key.destination, o->key.protocol, o->key.tag, o->now);
 	case CHOOSE:
@@ -155,7 +155,7 @@ static bool step(struct run *run, const struct order *o)
 	}
 	if (!ledger_hear(o->call, &reply)) {
 		wrong++;
-		printf("FAILED: call %lu: %s after %s does not fit what was said of its request before\n", calls, word_names[word_of(reply.answer)],
+		printf("FAILED: call %lu: %s after %s does not fit what was said of its request before\n", calls, sonerwal_answer_name(reply.answer),
 		       call_names[o->call]);
 		return false;
 	}

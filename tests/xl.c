@@ -222,9 +222,9 @@ static void compare_count(char **at)
 	snprintf(expected, sizeof expected, "%llu", before < 4294967295ull ? before + 1 : before);
 	same(where, expected, field(at));
 	struct sonerwal_link s = link_of(0, "---000", &table_frames, (uint32_t)before);
-	struct sonerwal_link_step step = sonerwal_link_event(s, event_named("CLOSE"), table_frames.event);
+	uint8_t answer = sonerwal_link_keep(&s, sonerwal_link_event(s, event_named("CLOSE"), table_frames.event));
 	calls++;
-	check(step.answer == SONERWAL_OK && step.state.unexpected == strtoull(expected, NULL, 10), "%s: sonerwal_link_event()", where);
+	check(answer == SONERWAL_OK && s.unexpected == strtoull(expected, NULL, 10), "%s: sonerwal_link_event()", where);
 }
 
 int main(void)

@@ -6,6 +6,7 @@ pub mod Exact
 pub mod Frames
 pub mod Leaving
 pub mod Links
+pub mod LinkFace
 pub mod LinkNumbers
 pub mod LinkRefusals
 mod Named

@@ -54,7 +54,7 @@ router-brings (Message.OpenReject k) e = impossible e
 router-brings Message.BackoffRetry e = impossible e
 router-brings Message.BackoffReversePath e = inr (inr refl)
 
-brings : (e : Event) → (hasFrame e ≡ true) ↔ Brings e
+pub brings : (e : Event) → (hasFrame e ≡ true) ↔ Brings e
 brings e = (there e, back)
   where
     there : (e : Event) → hasFrame e ≡ true → Brings e
@@ -103,7 +103,7 @@ frame-held : (h : Held) → Says (isFrame h) (h ≡ Held.Nothing → ⊥)
 frame-held Held.Nothing = (impossible, λ n. absurd (n refl))
 frame-held (Held.Frame f) = (λ e n. never (sym (ap isFrame n)), λ n. refl)
 
-rules-say : (s : State) → Says (keepsRules s) (Rules s)
+pub rules-say : (s : State) → Says (keepsRules s) (Rules s)
 unfolding keepsRules
 rules-say s =
     means (both (fields (s .memory .held)) (both (fields (s .memory .heard)) (implies (working (s .phase)) (frame-held (s .memory .held)))))
@@ -202,7 +202,7 @@ in-phase-is Phase.Xl8 a = refl
 in-phase-is Phase.Xl9 a = refl
 in-phase-is Phase.Xl10 a = refl
 
-link-apart : (s : State) (k : Refusal) → inPhase (s .phase) (s .memory .aip) ≡ LinkStatus.Refused k → ⊥
+pub link-apart : (s : State) (k : Refusal) → inPhase (s .phase) (s .memory .aip) ≡ LinkStatus.Refused k → ⊥
 unfolding isRefused
 link-apart s k e = never (sym (in-phase-is (s .phase) (s .memory .aip)) ∙ ap isRefused e)
 

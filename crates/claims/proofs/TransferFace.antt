@@ -23,7 +23,7 @@ use Rattle.send.specs.Calls as machine
 use Rattle.send.specs.History.{outputOf}
 use Rattle.transfer_lent.specs.Numbers.{answerNumber}
 use Rattle.transfer_lent.specs.Lent.{formed, stateOf, shown, told, malformed}
-use Rattle.transfer_lent.specs.Face.{Call, frame, ack, nak, timeout, lost, nexus, cancel, next, seen, faceOf, bytesOf, lengthOf}
+use Rattle.transfer_lent.specs.Face.{Call, frame, ack, nak, timeout, lost, nexus, cancel, next, faceOf, bytesOf, lengthOf}
 use Rattle.transfer_lent.specs.History.{isRefusal, callOf, Reached}
 use Rattle.transfer_lent.specs.declared.State.{State}
 use Rattle.transfer_lent.specs.declared.Step.{Step}

@@ -1,3 +1,4 @@
 -- What the claims say in words of their own.
 pub mod Causes
 pub mod Links
+pub mod LinkFace

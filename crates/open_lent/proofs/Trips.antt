@@ -87,7 +87,14 @@ clear-is o e =
     zero n = equal n 0
 
     says : Says (isClear o) ((o .destination ≡ 0) × ((o .source ≡ 0) × ((o .tag ≡ 0) × ((o .awt ≡ 0) × ((o .initiator ≡ 0) × ((o .protocol ≡ 0) × ((o .features ≡ 0) × ((o .rate ≡ 0) × ((o .pbc ≡ 0) × ((o .zero4 ≡ 0) × ((o .zero2 ≡ 0) × (o .zero1 ≡ 0))))))))))))
-    says = both (zero (o .destination)) (both (zero (o .source)) (both (zero (o .tag)) (both (zero (o .awt)) (both (zero (o .initiator)) (both (zero (o .protocol)) (both (zero (o .features)) (both (zero (o .rate)) (both (zero (o .pbc)) (formed-says o)))))))))
+    says =
+        both (zero (o .destination))
+        (both (zero (o .source))
+        (both (zero (o .tag))
+        (both (zero (o .awt))
+        (both (zero (o .initiator))
+        (both (zero (o .protocol))
+        (both (zero (o .features)) (both (zero (o .rate)) (both (zero (o .pbc)) (formed-says o)))))))))
 
 -- each number stands in its own place
 pub typed-says : frameOf typedOpen ≡ typedFrame

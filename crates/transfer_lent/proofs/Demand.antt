@@ -63,33 +63,36 @@ demand-shown t h es st d = record {
 
 -- over any calls of C from all zeros, and one call more
 module _ (cs : List Call) (c : Call) (typed : AllTyped cs) (one : Typed c) where
+  abbrev s : State
+  s = run cs zeros
+
   abbrev before : Transfer
   before = sending.run limit (map callOf cs) unstarted
 
-  state-is : run cs zeros ≡ shown before
+  state-is : s ≡ shown before
   state-is = run-shown cs unstarted
 
   past-is : history cs zeros [] ≡ sent.history limit (map callOf cs) unstarted []
   past-is = history-shown cs unstarted []
 
-  added-is : entriesOf c (run cs zeros) ≡ sent.entriesOf limit (callOf c) before
+  added-is : entriesOf c s ≡ sent.entriesOf limit (callOf c) before
   added-is = ap (entriesOf c) state-is ∙ entries-shown c before
 
-  answer-is : faceOf c (run cs zeros) ≡ told (sending.stepOf limit (callOf c) before)
+  answer-is : faceOf c s ≡ told (sending.stepOf limit (callOf c) before)
   answer-is = ap (faceOf c) state-is ∙ step-shown c before
 
   -- DEMAND 3
-  pub demand-seen : DemandSeen (run cs zeros) (sent.frames (history cs zeros [])) (sent.frames (entriesOf c (run cs zeros))) (faceOf c (run cs zeros))
+  pub demand-seen : DemandSeen s (sent.frames (history cs zeros [])) (sent.frames (entriesOf c s)) (faceOf c s)
   demand-seen =
       transport⁻¹ (λ i. DemandSeen (state-is i) (sent.frames (past-is i)) (sent.frames (added-is i)) (answer-is i))
       (demand-shown before _ _ _ (demand-3 limit (map callOf cs) (callOf c) typed one))
 
-  pub changing-seen : (f : sent.Sent) → entriesOf c (run cs zeros) ≡ sent-of f ∷ [] → f .changing ≡ cond (firstResent (view (sent.frames (history cs zeros [])))) 1 0
+  pub changing-seen : (f : sent.Sent) → entriesOf c s ≡ sent-of f ∷ [] → f .changing ≡ cond (firstResent (view (sent.frames (history cs zeros [])))) 1 0
   changing-seen f e =
       changing-is limit (map callOf cs) (callOf c) typed one f (sym added-is ∙ e)
       ∙ ap (λ (h : List (EntryOf sent.Sent)). cond (firstResent (view (sent.frames h))) 1 0) (sym past-is)
 
-  pub addressed-seen : (destination source tag : ℕ) (body out : List ℕ) → c ≡ next destination source tag body out → isRefusal (faceOf c (run cs zeros) .answer) ≡ false → sent.Addressed (bytesOf destination source tag body out (run cs zeros)) (length body) destination source tag (run cs zeros .read)
+  pub addressed-seen : (destination source tag : ℕ) (body out : List ℕ) → c ≡ next destination source tag body out → isRefusal (faceOf c s .answer) ≡ false → sent.Addressed (bytesOf destination source tag body out s) (length body) destination source tag (s .read)
   addressed-seen destination source tag body out is goes-on =
       let d : sending.Call = sending.Call.next destination source tag body out in
       let same : callOf c ≡ d = ap callOf is in
@@ -98,14 +101,14 @@ module _ (cs : List Call) (c : Call) (typed : AllTyped cs) (one : Typed c) where
       transport⁻¹ (λ i. sent.Addressed ((ap (bytesOf destination source tag body out) state-is ∙ written) i) (length body) destination source tag (state-is i .read))
       (addressed-by limit before (callOf c) one destination source tag body out same taken)
 
-  pub image-seen : (image : List ℕ) → AllFromImage image cs zeros → sent.FromImage image (callOf c) (stateOf (run cs zeros)) → faceOf c (run cs zeros) .answer ≡ 19 → (x : ℕ) → run cs zeros .offset ≤ x → x < run cs zeros .offset + run cs zeros .count → sent.Shown image x (view (entriesOf c (run cs zeros) ++ history cs zeros []) .acked)
+  pub image-seen : (image : List ℕ) → AllFromImage image cs zeros → sent.FromImage image (callOf c) (stateOf s) → faceOf c s .answer ≡ 19 → (x : ℕ) → s .offset ≤ x → x < s .offset + s .count → sent.Shown image x (view (entriesOf c s ++ history cs zeros []) .acked)
   image-seen image given this e x from to =
       let done = one-answer (sending.stepOf limit (callOf c) before .answer) Answer.Done (ap (λ (r : Step). r .answer) (sym answer-is) ∙ e) in
       let lent = subst (sent.FromImage image (callOf c)) (ap stateOf state-is ∙ shown-back before) this in
       transport⁻¹ (λ i. sent.Shown image x (view (added-is i ++ past-is i) .acked))
-      (delivered image limit (map callOf cs) (callOf c) typed one (image-calls image cs unstarted given) lent done x (subst (λ (s : State). s .offset ≤ x) state-is from) (subst (λ (s : State). x < s .offset + s .count) state-is to))
+      (delivered image limit (map callOf cs) (callOf c) typed one (image-calls image cs unstarted given) lent done x (subst (λ (u : State). u .offset ≤ x) state-is from) (subst (λ (u : State). x < u .offset + u .count) state-is to))
 
   -- at most (R+1) times ⌈N/M⌉ frames go for one START
-  pub ends-seen : framesSent (sent.frames (history cs zeros [])) ≤ (run cs zeros .resends + 1) * framesIn (run cs zeros .count) (run cs zeros .size)
+  pub ends-seen : framesSent (sent.frames (history cs zeros [])) ≤ (s .resends + 1) * framesIn (s .count) (s .size)
   ends-seen =
       transport⁻¹ (λ i. framesSent (sent.frames (past-is i)) ≤ (state-is i .resends + 1) * framesIn (state-is i .count) (state-is i .size)) (sends-end limit (map callOf cs) typed)

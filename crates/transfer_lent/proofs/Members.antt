@@ -1,17 +1,14 @@
 -- A transfer shown as numbers is formed and read back as it was, and formed numbers are shown as they were: the members are the fields, a phase
 -- and a flag are told by their numbers, and what is left is zero. Assumes nothing.
-use Prim.Native.Nat.{ℕ}
-use mathlib.Core.Bool.{Bool, true}
+use mathlib.Core.Bool.{true}
 use mathlib.Core.Path.{_≡_, refl, sym}
 use borrow.Author.Tests.{ltb-true, eqb-true, lt-ltb}
-use lib.Dec.{eqb, ltb}
+use lib.Dec.{ltb}
 use Rattle.laws.specs.Names.{flag}
 use Rattle.laws.proofs.Bools.{and-left, and-right, and-true}
 use Rattle.laws.proofs.Names.{flag-back, flag-at}
-use Rattle.transfer.specs.Rules.{unstarted}
-use Rattle.transfer.specs.declared.Phase.{Phase}
 use Rattle.transfer.specs.declared.Transfer.{Transfer}
-use Rattle.transfer_lent.specs.Numbers.{phaseNumber, phaseOf}
+use Rattle.transfer_lent.specs.Numbers.{phaseNumber}
 use Rattle.transfer_lent.specs.Lent.{formed, stateOf, shown}
 use Rattle.transfer_lent.specs.declared.State.{State}
 use Rattle.transfer_lent.proofs.Trips.{phase-back, phase-at}

@@ -23,7 +23,7 @@ use Rattle.send.proofs.Words.{keeps, three-either}
 use Rattle.transfer_lent.specs.Numbers.{phaseNumber, answerNumber}
 use Rattle.transfer_lent.specs.Lent.{formed, stateOf, shown, told, malformed, nextLength}
 use Rattle.transfer_lent.specs.Face.{Call, start, frame, ack, nak, timeout, lost, nexus, cancel, next, faceOf, lengthOf}
-use Rattle.transfer_lent.specs.History.{zeros, run, isRefusal, callOf, AllTyped, Left, Reached, Finishes}
+use Rattle.transfer_lent.specs.History.{zeros, run, isRefusal, callOf, AllTyped, Reached, Finishes}
 use Rattle.transfer_lent.specs.Demand.{Unfinished}
 use Rattle.transfer_lent.specs.declared.State.{State}
 use Rattle.transfer_lent.specs.declared.Step.{Step}

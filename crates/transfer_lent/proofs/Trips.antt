@@ -1,9 +1,10 @@
--- Each phase's number is its place in the list; a refusal's number is below that of whatever happened, and above 0. Assumes nothing.
-use Prim.Native.Nat.{ℕ, _-_, _≤_, _<_}
-use mathlib.Core.List.{[], _∷_}
+-- Each phase's number is its place in the list; an answer that is no refusal is found by its number, which no refusal has. Assumes nothing.
+use Prim.Native.Nat.{ℕ, _<_}
+use mathlib.Core.Bool.{cond}
+use mathlib.Core.List.{List, [], _∷_}
 use mathlib.Core.Path.{_≡_, refl, sym, ap, _∙_}
 use native.Mathlib.Omega.{arith}
-use lib.ListN.{getD}
+use lib.Dec.{eqb}
 use Rattle.laws.specs.Names.{Named}
 use Rattle.laws.proofs.Names.{numbered, in-list}
 use Rattle.laws.proofs.Places.{Each}
@@ -32,9 +33,14 @@ phase-at = numbered phaseNumber phases Phase.End phases-placed
 pub phase-named : Named (λ (n : ℕ) (p : Phase). (n < 6) × (phaseOf n ≡ p)) phaseNumber
 phase-named = in-list phaseNumber phases Phase.End phases-placed phase-back
 
--- what happened, by its number: Ok's is 0, and a refusal stands nowhere here
+-- the one of these that has the number n
+abbrev numbered-by : List Answer → ℕ → Answer
+numbered-by [] n = Ok
+numbered-by (a ∷ rest) n = cond (eqb (answerNumber a) n) a (numbered-by rest n)
+
+-- whatever is no refusal
 abbrev happened : ℕ → Answer
-happened n = getD (Ok ∷ Sent ∷ Drain ∷ Retry ∷ Done ∷ Fail ∷ End ∷ []) (n - 15) Ok
+happened n = numbered-by (Ok ∷ Sent ∷ Drain ∷ Retry ∷ Done ∷ Fail ∷ End ∷ []) n
 
 -- an answer is a refusal, or is found at its number, which no refusal has
 pub data Told : Answer → Type 0 where

@@ -1,6 +1,6 @@
 -- A transfer as the numbers that C lends, and what C sees of a step. Assumes nothing.
 use Prim.Native.Nat.{ℕ}
-use mathlib.Core.Bool.{Bool, cond, _&&_}
+use mathlib.Core.Bool.{Bool, _&&_}
 use lib.Dec.{eqb, ltb}
 use Rattle.laws.specs.Names.{flag}
 use Rattle.refusals.specs.Causes.{refuse}

@@ -9,3 +9,4 @@ pub mod Looked
 pub mod Seen
 pub mod Released
 pub mod Statuses
+pub mod Faces

@@ -6,3 +6,4 @@ pub mod Marks
 pub mod Memory
 pub mod After
 pub mod Statuses
+pub mod Faces

@@ -2,3 +2,4 @@
 pub mod Says
 pub mod Trips
 pub mod Laws
+pub mod Causes

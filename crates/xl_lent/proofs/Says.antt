@@ -30,7 +30,15 @@ pub formed-says : (l : Link) → Says (formed l) (Formed l)
 unfolding formed
 formed-says l =
     means
-    (both (less (l .phase) 11) (both (less (l .holds) 2) (both (less (l .hears) 2) (both (less (l .aip) 5) (both (less (l .broke) 2) (both (less (l .close) 2) (both (less (l .blocked) 2) (both (equal (l .zero4) 0) (both (equal (l .zero1) 0) (both (held-says (l .holds) (l .held)) (held-says (l .hears) (l .heard)))))))))))) (
+    (both (less (l .phase) 11)
+    (both (less (l .holds) 2)
+    (both (less (l .hears) 2)
+    (both (less (l .aip) 5)
+    (both (less (l .broke) 2)
+    (both (less (l .close) 2)
+    (both (less (l .blocked) 2)
+    (both (equal (l .zero4) 0)
+    (both (equal (l .zero1) 0) (both (held-says (l .holds) (l .held)) (held-says (l .hears) (l .heard)))))))))))) (
       λ h.
           let h4 = h .1 .1 .1 .1 in
           let h8 = h4 .1 .1 .1 .1 in

@@ -1,33 +1,66 @@
 -- A state is shown as numbers that say it, and numbers that say a state are those that it is shown as: member by member, by the tables of
 -- crate xl_numbers. Assumes nothing.
 use Prim.Native.Nat.{ℕ, _<_}
-use mathlib.Core.Bool.{Bool, true, false, cond}
+use mathlib.Core.Bool.{Bool, true, false}
+use mathlib.Core.List.{[], _∷_, map}
 use mathlib.Core.Path.{_≡_, refl, sym, ap, _∙_}
 use native.Mathlib.Omega.{arith}
 use lib.Dec.{eqb}
 use borrow.Author.Tests.{eqb-true, eqb-false}
 use Rattle.laws.proofs.Bools.{by-test, and-left, and-right}
-use Rattle.open_lent.specs.Lent as frames
 use Rattle.open_lent.specs.declared.Open.{Open}
 use Rattle.open_lent.proofs.Trips as frame-trips
 use Rattle.xl_parts.specs.declared.Phase.{Phase}
 use Rattle.xl_parts.specs.declared.Held.{Held}
 use Rattle.xl_parts.specs.declared.Seen.{Seen}
 use Rattle.xl_parts.specs.declared.State.{State}
+use Rattle.xl_parts.specs.declared.Action.{Action}
+use Rattle.xl_parts.specs.declared.Actions.{Actions}
 use Rattle.xl_parts.specs.Parts.{phaseNumber, ready}
 use Rattle.xl_numbers.specs.declared.states.PhaseRead.{PhaseRead}
 use Rattle.xl_numbers.specs.declared.states.AipRead.{AipRead}
 use Rattle.xl_numbers.specs.States.{phases, phaseOf, aipNumber, aips, aipOf}
+use Rattle.xl_numbers.specs.declared.codes.ActionRead.{ActionRead}
+use Rattle.xl_numbers.specs.Codes.{actionNumber, actionOf}
 use Rattle.laws.specs.Names.{flag}
 use Rattle.laws.proofs.Places.{each-within}
 use Rattle.xl_numbers.proofs.KindTrips.{wait-back}
 use Rattle.xl_numbers.proofs.StateTrips.{phase-named, aip-named}
+use Rattle.xl_numbers.proofs.CodeTrips.{action-named}
 use Rattle.xl.specs.Rules.{fielded, keepsRules}
 use Rattle.xl_lent.specs.declared.Link.{Link}
-use Rattle.xl_lent.specs.Lent.{phaseIn, aipIn, heldOf, heldNumber, frameShown, stateOf, shown, formed, zeros, NarrowHeld, Narrow}
-use Rattle.xl_lent.specs.Formed.{WellHeld, Formed}
+use Rattle.xl_lent.specs.Lent.{phaseIn, aipIn, heldOf, heldNumber, frameShown, stateOf, shown, formed, coded, zeros, NarrowHeld, Narrow}
+use Rattle.xl_lent.specs.Formed.{WellHeld}
+use Rattle.xl_lent.specs.Face.{codesOf}
 use Rattle.xl_lent.specs.Typed.{typedLink, typedState, blockedLink, blockedState, closedLink, closedState}
 use Rattle.xl_lent.proofs.Says.{formed-says}
+
+-- ---- what is typed a second time
+
+-- all zeros is XL0 with nothing remembered
+pub zeros-ready : stateOf zeros ≡ ready
+zeros-ready = refl
+
+pub ready-zeros : shown ready ≡ zeros
+ready-zeros = refl
+
+pub typed-says : stateOf typedLink ≡ typedState
+typed-says = refl
+
+pub blocked-says : stateOf blockedLink ≡ blockedState
+blocked-says = refl
+
+pub closed-says : stateOf closedLink ≡ closedState
+closed-says = refl
+
+pub typed-shown : shown typedState ≡ typedLink
+typed-shown = refl
+
+pub blocked-shown : shown blockedState ≡ blockedLink
+blocked-shown = refl
+
+pub closed-shown : shown closedState ≡ closedLink
+closed-shown = refl
 
 -- ---- from a state to its numbers and back
 
@@ -176,29 +209,16 @@ lent-back l ok n =
       zero1 = zero1 i;
     }
 
--- ---- what is typed a second time
+-- ---- actions
 
--- all zeros is XL0 with nothing remembered
-pub zeros-ready : stateOf zeros ≡ ready
-zeros-ready = refl
-
-pub ready-zeros : shown ready ≡ zeros
-ready-zeros = refl
-
-pub typed-says : stateOf typedLink ≡ typedState
-typed-says = refl
-
-pub blocked-says : stateOf blockedLink ≡ blockedState
-blocked-says = refl
-
-pub closed-says : stateOf closedLink ≡ closedState
-closed-says = refl
-
-pub typed-shown : shown typedState ≡ typedLink
-typed-shown = refl
-
-pub blocked-shown : shown blockedState ≡ blockedLink
-blocked-shown = refl
-
-pub closed-shown : shown closedState ≡ closedLink
-closed-shown = refl
+-- an action's numbers name it
+pub actions-back : (acts : Actions) → map actionOf (codesOf (coded acts)) ≡ ActionRead.Named (acts .first) ∷ ActionRead.Named (acts .second) ∷ ActionRead.Named (acts .third) ∷ ActionRead.Named (acts .fourth) ∷ []
+actions-back acts =
+    let first = back (acts .first) in
+    let second = back (acts .second) in
+    let third = back (acts .third) in
+    let fourth = back (acts .fourth) in
+    λ i. first i ∷ second i ∷ third i ∷ fourth i ∷ []
+  where
+    back : (a : Action) → actionOf (actionNumber a) ≡ ActionRead.Named a
+    back a = action-named (actionNumber a) a .1 refl

@@ -1,7 +1,8 @@
 -- What C sees of a link's calls: the machine's own step on the state that the numbers say. Assumes nothing.
 use Prim.Native.Nat.{ℕ}
-use mathlib.Core.Bool.{not, _&&_}
+use mathlib.Core.Bool.{Bool, not, _&&_}
 use mathlib.Core.List.{List, [], _∷_}
+use mathlib.Core.Path.{_≡_}
 use Rattle.refusals.specs.Refusals.{numberOf}
 use Rattle.refusals.specs.Causes.{Cause, _when_, refuse}
 use Rattle.refusals.specs.declared.Refusal.{Refusal}
@@ -18,9 +19,11 @@ use Rattle.xl_numbers.specs.declared.codes.Code.{Code}
 use Rattle.xl_numbers.specs.declared.codes.EventRead.{EventRead}
 use Rattle.xl_numbers.specs.Codes.{eventOf}
 use Rattle.xl_numbers.specs.States.{statusNumber}
+use Rattle.xl.specs.Rules.{keepsRules}
 use Rattle.xl.specs.Steps.{hasFrame, stepOf}
 use Rattle.xl.specs.Status.{statusOf}
 use Rattle.xl_lent.specs.declared.Link.{Link}
+use Rattle.xl_lent.specs.declared.Codes.{Codes}
 use Rattle.xl_lent.specs.declared.Step.{Step}
 use Rattle.xl_lent.specs.Lent.{stateOf, shown, formed, coded, silent}
 
@@ -29,12 +32,11 @@ use Rattle.xl_lent.specs.Lent.{stateOf, shown, formed, coded, silent}
 abbrev pub refused : Link → Refusal → Step
 refused l k = record { state = l; actions = silent; answer = numberOf k }
 
--- an answer as C sees it
+-- what C sees of a step from l that gives this answer
 abbrev pub answered : Link → Stepped → Answer → Step
 answered l r Answer.Done = record { state = shown (r .state); actions = coded (r .actions); answer = 0 }
 answered l r (Answer.Refused k) = refused l k
 
--- a step from l as C sees it
 abbrev pub told : Link → Stepped → Step
 told l r = answered l r (r .answer)
 
@@ -69,3 +71,24 @@ statusCauses l = (Refusal.Rules when not (formed l)) ∷ []
 
 unfoldable pub linkStatus : Link → ℕ
 linkStatus l = refuse numberOf (statusCauses l) (statusNumber (statusOf (stateOf l)))
+
+-- ---- what is claimed of it
+
+-- 0, or the refusal's number
+abbrev pub answerNumber : Answer → ℕ
+answerNumber Answer.Done = 0
+answerNumber (Answer.Refused k) = numberOf k
+
+-- the numbers say a state that keeps the machine's rules
+unfoldable pub keepsLent : Link → Bool
+keepsLent l = formed l && keepsRules (stateOf l)
+
+-- C sees what the machine answers: its answer and its actions number for number, and a link whose numbers say its new state
+pub record Sees (m : Stepped) (r : Step) : Type 0 where
+  pub answer : r .answer ≡ answerNumber (m .answer)
+  pub actions : r .actions ≡ coded (m .actions)
+  pub state : stateOf (r .state) ≡ m .state
+
+-- the four that C sees, in order
+abbrev pub codesOf : Codes → List Code
+codesOf c = c .first ∷ c .second ∷ c .third ∷ c .fourth ∷ []

@@ -7,7 +7,7 @@ use mathlib.Core.Path.{_≡_, refl, sym, ap, _∙_}
 use native.Mathlib.Omega.{arith}
 use lib.Dec.{eqb, ltb}
 use borrow.Author.Tests.{ltb-true, ltb-false, eqb-true, eqb-false, lt-ltb}
-use Rattle.laws.specs.Names.{Named, flag}
+use Rattle.laws.specs.Names.{Named}
 use Rattle.laws.proofs.Bools.{by-test, and-left, and-right}
 use Rattle.laws.proofs.Places.{Each, each-at}
 use Rattle.xl_parts.specs.declared.Primitive.{Primitive}

@@ -1,7 +1,7 @@
 -- Events and actions as two numbers, a kind and a detail. What the phy receives and transmits has the kinds below 16, what the router carries
 -- those from 16, what the connection manager says and hears those from 32, what the link tells itself those from 48. Assumes nothing.
 use Prim.Native.Nat.{ℕ, _-_}
-use mathlib.Core.Bool.{Bool, true, false, cond, _&&_}
+use mathlib.Core.Bool.{cond, _&&_}
 use mathlib.Core.List.{List, [], _∷_}
 use lib.Dec.{eqb, ltb}
 use lib.ListN.{getD}

@@ -1,4 +1,4 @@
--- What the functions ask of their arguments holds of all of them: the expander link and the bench over it. Assumes nothing.
+-- What the functions ask of their arguments holds of all of them: the expander link, and what C calls of it. Assumes nothing.
 use Rattle.xl_parts.proofs.ready.Kinds as ready-of
 use Rattle.xl_parts.proofs.ready.Reads as ready
 use Rattle.xl_parts.proofs.stay.Kinds as stay-of
@@ -33,6 +33,30 @@ use Rattle.xl.proofs.receive.Kinds as xl-receive-of
 use Rattle.xl.proofs.receive.Reads as xl-receive
 use Rattle.xl.proofs.status.Kinds as xl-status-of
 use Rattle.xl.proofs.status.Reads as xl-status
+use Rattle.open_lent.proofs.frame_of.Kinds as open-frame-of-of
+use Rattle.open_lent.proofs.frame_of.Reads as open-frame-of
+use Rattle.open_lent.proofs.shown.Kinds as open-shown-of
+use Rattle.open_lent.proofs.shown.Reads as open-shown
+use Rattle.open_lent.proofs.clear.Kinds as open-clear-of
+use Rattle.open_lent.proofs.clear.Reads as open-clear
+use Rattle.open_lent.proofs.formed.Kinds as open-formed-of
+use Rattle.open_lent.proofs.formed.Reads as open-formed
+use Rattle.open_lent.proofs.is_clear.Kinds as open-is-clear-of
+use Rattle.open_lent.proofs.is_clear.Reads as open-is-clear
+use Rattle.xl.proofs.brings_unlisted.Kinds as brings-unlisted-of
+use Rattle.xl.proofs.brings_unlisted.Reads as brings-unlisted
+use Rattle.xl_lent.proofs.link_event.Kinds as lent-event-of
+use Rattle.xl_lent.proofs.link_event.Reads as lent-event
+use Rattle.xl_lent.proofs.link_receive.Kinds as lent-receive-of
+use Rattle.xl_lent.proofs.link_receive.Reads as lent-receive
+use Rattle.xl_lent.proofs.link_status.Kinds as lent-status-of
+use Rattle.xl_lent.proofs.link_status.Reads as lent-status
+use Rattle.sonerwal.proofs.link.sonerwal_link_event.Kinds as c-link-event-of
+use Rattle.sonerwal.proofs.link.sonerwal_link_event.Reads as c-link-event
+use Rattle.sonerwal.proofs.link.sonerwal_link_receive.Kinds as c-link-receive-of
+use Rattle.sonerwal.proofs.link.sonerwal_link_receive.Reads as c-link-receive
+use Rattle.sonerwal.proofs.link.sonerwal_link_status.Kinds as c-link-status-of
+use Rattle.sonerwal.proofs.link.sonerwal_link_status.Reads as c-link-status
 use Rattle.claims.proofs.Calls.{Anything}
 
 pub record Links : Type 2 where
@@ -53,6 +77,18 @@ pub record Links : Type 2 where
   pub xl-step : Anything 0 xl-step-of.ps xl-step.Pre
   pub xl-receive : Anything 1 xl-receive-of.ps xl-receive.Pre
   pub xl-status : Anything 0 xl-status-of.ps xl-status.Pre
+  pub open-frame-of : Anything 0 open-frame-of-of.ps open-frame-of.Pre
+  pub open-shown : Anything 0 open-shown-of.ps open-shown.Pre
+  pub open-clear : Anything 0 open-clear-of.ps open-clear.Pre
+  pub open-formed : Anything 0 open-formed-of.ps open-formed.Pre
+  pub open-is-clear : Anything 0 open-is-clear-of.ps open-is-clear.Pre
+  pub brings-unlisted : Anything 0 brings-unlisted-of.ps brings-unlisted.Pre
+  pub lent-event : Anything 0 lent-event-of.ps lent-event.Pre
+  pub lent-receive : Anything 1 lent-receive-of.ps lent-receive.Pre
+  pub lent-status : Anything 0 lent-status-of.ps lent-status.Pre
+  pub c-link-event : Anything 0 c-link-event-of.ps c-link-event.Pre
+  pub c-link-receive : Anything 1 c-link-receive-of.ps c-link-receive.Pre
+  pub c-link-status : Anything 0 c-link-status-of.ps c-link-status.Pre
 
 pub links : Links
 links = record {
@@ -73,4 +109,16 @@ links = record {
   xl-step = λ κs a. tt;
   xl-receive = λ κs a. tt;
   xl-status = λ κs a. tt;
+  open-frame-of = λ κs a. tt;
+  open-shown = λ κs a. tt;
+  open-clear = λ κs a. tt;
+  open-formed = λ κs a. tt;
+  open-is-clear = λ κs a. tt;
+  brings-unlisted = λ κs a. tt;
+  lent-event = λ κs a. tt;
+  lent-receive = λ κs a. tt;
+  lent-status = λ κs a. tt;
+  c-link-event = λ κs a. tt;
+  c-link-receive = λ κs a. tt;
+  c-link-status = λ κs a. tt;
 }

@@ -34,7 +34,9 @@ returns : tie.Need-returns
 returns c =
     let at-aip = c .before .before .before in
     let at-phase = at-aip .before .before .before in
-    rw (c .flag3 .ensures, c .before .flag2 .ensures, c .before .before .flag .ensures, at-aip .aip-number .ensures, at-aip .before .held-number2 .ensures, at-aip .before .before .held-number .ensures, at-phase .phase-number .ensures, at-phase .before .frame-shown2 .ensures, at-phase .before .before .frame-shown .ensures)
+    rw (c .flag3 .ensures, c .before .flag2 .ensures, c .before .before .flag .ensures)
+    (rw (at-aip .aip-number .ensures, at-aip .before .held-number2 .ensures, at-aip .before .before .held-number .ensures)
+    (rw (at-phase .phase-number .ensures, at-phase .before .frame-shown2 .ensures, at-phase .before .before .frame-shown .ensures)))
 
 pub shown-spec : {M : Type 1} → statement M
 shown-spec =
