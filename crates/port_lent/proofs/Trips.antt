@@ -15,7 +15,7 @@ use Rattle.port_parts.specs.declared.Port.{Port}
 use Rattle.port_rows.specs.Answers as answers
 use Rattle.port_lent.specs.declared.Phy.{Phy as LentPhy}
 use Rattle.port_lent.specs.declared.Port.{Port as LentPort}
-use Rattle.port_lent.specs.Lent.{phyFormed, noPhy, physFormed, formed, noPort, phyOf, physOf, portOf, phyShown, physShown, portShown}
+use Rattle.port_lent.specs.Lent.{phyFormed, noPhy, physFormed, formed, noPort, phyOf, physOf, countOf, portOf, phyShown, physShown, portShown}
 use Rattle.port_lent.specs.Runs.{plainly}
 use Rattle.port_lent.specs.Typed.{typedLent, typedPort}
 
@@ -37,11 +37,11 @@ shown-formed p = all-says (λ k. phyFormed (getD (physShown (p .phys)) k noPhy))
 
 -- well formed numbers say the port as they stand
 pub formed-says : (p : LentPort) → formed p ≡ true → portOf p ≡ plainly p
-formed-says p e = λ i. record { count = cond (e i) (p .count) 0; loss = p .loss; last = p .last; phys = physOf (p .phys) }
+formed-says p e = let count : countOf p ≡ p .count = rw e refl in λ i. record { count = count i; loss = p .loss; last = p .last; phys = physOf (p .phys) }
 
 -- others say a port without phys
 pub malformed-says : (p : LentPort) → formed p ≡ false → portOf p .count ≡ 0
-malformed-says p e = ap (λ b. cond b (p .count) 0) e
+malformed-says p e = rw e refl
 
 pub port-back : (p : Port) → portOf (portShown p) ≡ p
 port-back p = formed-says (portShown p) (shown-formed p) ∙ (λ i. record { count = p .count; loss = p .loss; last = p .last; phys = phys-back (p .phys) i })
