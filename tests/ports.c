@@ -5,6 +5,7 @@
  * request at a time.
  */
 #include "check.h"
+#include "port_call.h"
 #include "port_draw.h"
 #include "port_fields.h"
 #include "port_ledger.h"
@@ -41,32 +42,6 @@ static struct sonerwal_open any_submission(struct sonerwal_head head)
 	return open;
 }
 
-static struct sonerwal_port_step call_port(struct world *w, const struct order *o)
-{
-	switch (o->call) {
-	case SETUP:
-		return sonerwal_port_setup(w->list, o->length, o->count, o->loss);
-	case SUBMIT:
-		return sonerwal_port_submit(w->list, o->length, w->port, any_submission(o->head), o->now);
-	case CANCEL:
-		return sonerwal_port_cancel(w->list, o->length, w->port, o->key.destination, o->key.protocol, o->key.tag, o->now);
-	case CHOOSE:
-		return sonerwal_port_choose(w->list, o->length, w->port, o->now);
-	case OPENED:
-		return sonerwal_port_opened(w->list, o->length, w->port, o->phy, o->now);
-	case OPEN_FAILED:
-		return sonerwal_port_open_failed(w->list, o->length, w->port, o->phy, o->why, o->now);
-	case FRAME_STATUS:
-		return sonerwal_port_frame_status(w->list, o->length, w->port, o->phy, o->status, o->now);
-	case CLOSED:
-		return sonerwal_port_closed(w->list, o->length, w->port, o->phy, o->now);
-	case ENABLE:
-		return sonerwal_port_enable(w->list, o->length, w->port, o->phy, o->now);
-	default:
-		return sonerwal_port_disable(w->list, o->length, w->port, o->phy, o->now);
-	}
-}
-
 static void tell(const struct order *o, const struct world *before, const struct difference *d)
 {
 	const struct sonerwal_port *port = &before->port;
@@ -97,7 +72,7 @@ static bool play(struct world *w, const struct order *o, struct sonerwal_port_st
 	static struct world before, after;
 	struct difference d = {.name = ""};
 	before = *w;
-	*reply = call_port(w, o);
+	*reply = port_call(w->list, &w->port, o, any_submission(o->head));
 	struct said said = model_call(w->model, o);
 	bool odd = w->odd && said.word != REFUSED;
 	show_after(&before, o->call, (enum word)said.word, &after);

@@ -1,6 +1,6 @@
 /*
  * Drives the fuzz target where libFuzzer can't be had: inputs that are noise, frames that begin well with a few bytes off, and calls that
- * a transfer or a link takes.
+ * a transfer, a link or a port takes.
  *
  * usage: driver RUNS
  */
@@ -88,17 +88,32 @@ static size_t make_link(uint8_t *bytes)
 	return at;
 }
 
+/* A port before setup, and calls on it, of which each takes six bytes; setups are rare. */
+static size_t make_port(uint8_t *bytes)
+{
+	static const uint8_t port[] = {6, 0, 0, 1, 3, 0, 0, 0};
+	size_t len = sizeof port + 6 * below(150);
+	memcpy(bytes, port, sizeof port);
+	for (size_t i = sizeof port; i < len; i += 6) {
+		bytes[i] = (uint8_t)(below(40) ? 1 + below(9) : 0);
+		bytes[i + 1] = (uint8_t)(below(4) ? below(32) : below(256));
+		bytes[i + 2] = (uint8_t)below(5);
+	}
+	return len;
+}
+
 static size_t make(uint8_t *bytes)
 {
 	for (size_t i = 0; i < LONGEST; i++) {
 		bytes[i] = (uint8_t)below(256);
 	}
 	size_t len = length();
-	switch (below(8)) {
+	switch (below(9)) {
 	case 0: len = make_open(bytes); break;
 	case 1: len = make_data(bytes); break;
 	case 2: len = make_transfer(bytes); break;
 	case 3: len = make_link(bytes); break;
+	case 4: len = make_port(bytes); break;
 	default: break;
 	}
 	return len < LONGEST ? len : LONGEST;

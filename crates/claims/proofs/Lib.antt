@@ -12,6 +12,7 @@ pub mod LinkRefusals
 mod Named
 mod Grounds
 pub mod PortFace
+pub mod PortLedger
 pub mod Ports
 pub mod Printed
 pub mod Priority

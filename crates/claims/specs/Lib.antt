@@ -2,3 +2,4 @@
 pub mod Causes
 pub mod Links
 pub mod LinkFace
+pub mod PortLedger
