@@ -23,9 +23,6 @@ static unsigned phy_breaks(const struct sonerwal_port *port, const struct sonerw
 	if (phy->stage > 6 || phy->slot > NO_SLOT || (k >= port->count && phy->stage != 0)) {
 		broken |= 1u << RULE_NUMBERS;
 	}
-	if (phy->zero4 != 0 || phy->zero1 != 0) {
-		broken |= 1u << RULE_ZEROS;
-	}
 	if (phy->protocol > 2) {
 		broken |= 1u << RULE_FIELDS;
 	}
