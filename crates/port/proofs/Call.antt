@@ -52,7 +52,7 @@ use Rattle.port_list.proofs.Callees.{gives1, gives2, gives4, calls1, calls2, ca
 use Rattle.port_list.proofs.Rec.{R, request}
 use Rattle.port.proofs.Rows.{DoneR, done as doneᴬ, SteppedR, stepped as steppedᴬ}
 use Rattle.port_list.proofs.Shared.{LentShared, shares-again, comes-back}
-use Rattle.port_list.proofs.Lent.{sliceOf, ended, clauses, PostOf, exits, meets}
+use Rattle.port_list.proofs.Lent.{sliceOf, Values, ended, clauses, PostOf, exits, meets}
 use Rattle.port.proofs.scans.load.Symbol.{name as #port·scans·load}
 use Rattle.port.proofs.leaves.left as left′
 use Rattle.port.proofs.leaves.left.Symbol.{name as #port·leaves·left}
@@ -105,8 +105,8 @@ module _ (𝓟 𝓧 𝓠 𝓕 : Arg) (Rfs : 𝓟 .X .Denot → Stepped) (Ask : �
   abbrev Lst : List Request → 𝓟 .X .Denot → 𝓧 .X .Denot → List Request
   Lst ys p x = leftOf ys (Told ys p x)
 
-  abbrev Promise : List Request → 𝓟 .X .Denot → 𝓧 .X .Denot → Stepped → List Request → Type 0
-  Promise ys p x y zs = Called ys (Told ys p x) (Rfs p) y zs
+  abbrev Promise : List Request → Values (𝓟 ∷ 𝓧 ∷ []) → Stepped → List Request → Type 0
+  Promise ys g y zs = Called ys (Told ys (g .0) (g .1 .0)) (Rfs (g .0)) y zs
 
   module _ (told-is : (ys : List Request) (p : 𝓟 .X .Denot) (x : 𝓧 .X .Denot) → Deed ys p x ≡ Told ys p x) {M : Type 1} (𝓤 : URA M) (H : Heap 𝓤) (A : Atoms 𝓤) (W : Given 𝓤 H A) (at-mem : Memory → SProp 𝓤) (run : Routine → Fun 𝓤) (κ : Lft) (q : Share) (b o : ℕ) (γ : GName) (ys : List Request) (p : 𝓟 .X .Denot) (x : 𝓧 .X .Denot) (vp vx : Val) (room : Room R (length ys)) (gp : Is (𝓟 .X) p (vp ∷ [])) (gx : Is (𝓧 .X) x (vx ∷ [])) where
     abbrev sl : GName → RefT (List Request)
@@ -118,11 +118,11 @@ module _ (𝓟 𝓧 𝓠 𝓕 : Arg) (Rfs : 𝓟 .X .Denot → Stepped) (Ask : �
     abbrev arg : RefT (List Request) × (𝓟 .X .Denot × (𝓧 .X .Denot × Unit {0}))
     arg = (sl γ, (p, (x, tt)))
 
-    abbrev at : Vals (ended 𝓟 𝓧 steppedᴬ .signature) (κ, tt)
+    abbrev at : Vals (ended (𝓟 ∷ 𝓧 ∷ []) steppedᴬ .signature) (κ, tt)
     at = (s ∷ [], (vp ∷ [], (vx ∷ [], tt)))
 
     abbrev Post : Val → SProp 𝓤
-    Post = PostOf 𝓟 𝓧 steppedᴬ Promise 𝓤 H A κ q b o γ ys p x vp vx
+    Post = PostOf (𝓟 ∷ 𝓧 ∷ []) steppedᴬ Promise 𝓤 H A κ q b o γ ys (p, (x, tt)) (vp ∷ [], (vx ∷ [], tt))
 
     -- what the five calls give
     abbrev c : 𝓠 .X .Denot
@@ -152,7 +152,7 @@ module _ (𝓟 𝓧 𝓠 𝓕 : Arg) (Rfs : 𝓟 .X .Denot → Stepped) (Ask : �
     -- the locals' types, and that what is stored in each has its type
     module _ (ρ δ α π ξ θ φ : Ty) (#refuse #ask #scan #slot #core : Name) (typed-p : T (hasTy π vp) × WT vp) (typed-x : T (hasTy ξ vx) × WT vx) (typed-q : (c : 𝓠 .X .Denot) (u : Val) → Is (𝓠 .X) c (u ∷ []) → T (hasTy θ u) × WT u) (typed-f : (f : 𝓕 .X .Denot) (u : Val) → Is (𝓕 .X) f (u ∷ []) → T (hasTy φ u) × WT u) (typed-r : (e : Request) (u : Val) → Is R e (u ∷ []) → T (hasTy ρ u) × WT u) (typed-d : (d : Done) (u : Val) → Is DoneR d (u ∷ []) → T (hasTy δ u) × WT u) (typed-y : (y : Stepped) (u : Val) → Is SteppedR y (u ∷ []) → T (hasTy α u) × WT u)
         (C : Calls 𝓤 H) (Λ : Loops 𝓤 H) (fm : FmC 𝓤 H (W .laws) C) (known-refuse : Triple 𝓤 (C #refuse) (gives1 𝓟 steppedᴬ Rfs 𝓤 H A)) (known-ask : Triple 𝓤 (C #ask) (gives2 𝓟 𝓧 𝓠 Ask 𝓤 H A)) (known-scan : Triple 𝓤 (C #scan) (looks 𝓠 𝓕 Scan 𝓤 H A)) (known-slot : Triple 𝓤 (C #slot) (gives2 𝓕 𝓧 (number w64) Slot 𝓤 H A)) (known-load : Triple 𝓤 (C #port·scans·load) (looks (number w64) request recordAt 𝓤 H A)) (known-core : Triple 𝓤 (C #core) (gives4 𝓟 request 𝓕 𝓧 doneᴬ Core 𝓤 H A)) (known-apply : Triple 𝓤 (C #port·leaves·left) (Apply 𝓤 H A at-mem run)) where
-      walk : ent 𝓤 (onEntry 𝓤 H A (ended 𝓟 𝓧 steppedᴬ .signature) (κ, tt) (q, tt) arg at) (WpFn 𝓤 H C Λ (function ρ δ α π ξ θ φ #refuse #ask #scan #slot #core) (s ∷ vp ∷ vx ∷ []) Post)
+      walk : ent 𝓤 (onEntry 𝓤 H A (ended (𝓟 ∷ 𝓧 ∷ []) steppedᴬ .signature) (κ, tt) (q, tt) arg at) (WpFn 𝓤 H C Λ (function ρ δ α π ξ θ φ #refuse #ask #scan #slot #core) (s ∷ vp ∷ vx ∷ []) Post)
       walk =
           qed W ((‵ (flft κ q) ⊛ ‵ ftrue) ∷ ‵ (owns (MutSlice (named 0) κ R ∷ 𝓟 .X ∷ 𝓧 .X ∷ []) arg at) ∷ []) ∵ enter ! C Λ (function ρ δ α π ξ θ φ #refuse #ask #scan #slot #core) (s ∷ vp ∷ vx ∷ []) _ $
           alloc1 ! (λ l0. alloc1 ! (λ l1. alloc1 ! (λ l2. alloc1 ! (λ l3. alloc1 ! (λ l4. alloc1 ! (λ l5. alloc1 ! (λ l6. alloc1 ! (λ l7. alloc1 ! (λ l8. alloc1 ! (λ l9. alloc1 ! (λ l10. alloc1 ! (λ l11. alloc1 ! (λ l12. alloc1 ! (λ l13. alloc1 ! (λ l14. alloc1 ! (λ l15. alloc1 ! (λ l16. alloc0 ! $ params1 ! $
@@ -169,7 +169,7 @@ module _ (𝓟 𝓧 𝓠 𝓕 : Arg) (Rfs : 𝓟 .X .Denot → Stepped) (Ask : �
           -- [the last list; the borrow; list's fact; p's and x's; the locals; the token]
           returns-within ! Post refl (look ! 36 refl) $ forget ! 16 refl $ forget ! 18 refl $ forget ! 30 refl $ forget ! 32 refl $ forget ! 34 refl $ forget ! 36 refl $
           move ! (36 ∷ 37 ∷ []) $ free1 ! $ move ! (34 ∷ 35 ∷ []) $ free1 ! $ move ! (32 ∷ 33 ∷ []) $ free1 ! $ move ! (30 ∷ 31 ∷ []) $ free1 ! $ move ! (28 ∷ 29 ∷ []) $ free1 ! $ move ! (26 ∷ 27 ∷ []) $ free1 ! $ move ! (24 ∷ 25 ∷ []) $ free1 ! $ move ! (22 ∷ 23 ∷ []) $ free1 ! $ move ! (20 ∷ 21 ∷ []) $ free1 ! $ move ! (18 ∷ 19 ∷ []) $ free1 ! $ move ! (16 ∷ 17 ∷ []) $ free1 ! $ move ! (14 ∷ 15 ∷ []) $ free1 ! $ move ! (12 ∷ 13 ∷ []) $ free1 ! $ move ! (10 ∷ 11 ∷ []) $ free1 ! $ move ! (8 ∷ 9 ∷ []) $ free1 ! $ move ! (6 ∷ 7 ∷ []) $ free1 ! $ move ! (4 ∷ 5 ∷ []) $ free1 ! $ free0 ! $
-          keep ! (4 ∷ 0 ∷ []) $ by ! (exits 𝓟 𝓧 steppedᴬ Promise 𝓤 H A W κ q b o γ ys p x vp vx w (Rfs p) ys (refused ys (Ans ys p x) (Rfs p) other, refused ys (Lst ys p x) ys other) refl iy)))
+          keep ! (4 ∷ 0 ∷ []) $ by ! (exits (𝓟 ∷ 𝓧 ∷ []) steppedᴬ Promise 𝓤 H A W κ q b o γ ys (p, (x, tt)) (vp ∷ [], (vx ∷ [], tt)) w (Rfs p) ys (refused ys (Ans ys p x) (Rfs p) other, refused ys (Lst ys p x) ys other) refl iy)))
           (λ right. let len : length ys ≡ 32 = eqb→eq (length ys) 32 (not-not (eqb (length ys) 32) right) in
           skips ! $ exec ! C Λ _ (tail ρ δ α π ξ θ φ #refuse #ask #scan #slot #core) (atRet _ Post) $
           calls2 𝓟 𝓧 𝓠 Ask 𝓤 H A p x vp vx gp gx ! fm known-ask (and-then ! (load ! (from ! (stop !)) (look ! 29 refl)) (and-then ! (load ! (from ! (stop !)) (look ! 27 refl)) (no-more !))) (λ wc ic. land ! (from ! (stop !)) (init ! 24 refl (typed-q c wc ic)) $
@@ -207,10 +207,10 @@ module _ (𝓟 𝓧 𝓠 𝓕 : Arg) (Rfs : 𝓟 .X .Denot → Stepped) (Ask : �
           returns ! (look ! 38 refl) $ forget ! 6 refl $ forget ! 8 refl $ forget ! 10 refl $ forget ! 12 refl $ forget ! 14 refl $ forget ! 16 refl $ forget ! 18 refl $ forget ! 20 refl $ forget ! 22 refl $ forget ! 24 refl $ forget ! 26 refl $ forget ! 28 refl $ forget ! 30 refl $ forget ! 32 refl $ forget ! 34 refl $ forget ! 36 refl $ forget ! 38 refl $
           move ! (38 ∷ 39 ∷ []) $ free1 ! $ move ! (36 ∷ 37 ∷ []) $ free1 ! $ move ! (34 ∷ 35 ∷ []) $ free1 ! $ move ! (32 ∷ 33 ∷ []) $ free1 ! $ move ! (30 ∷ 31 ∷ []) $ free1 ! $ move ! (28 ∷ 29 ∷ []) $ free1 ! $ move ! (26 ∷ 27 ∷ []) $ free1 ! $ move ! (24 ∷ 25 ∷ []) $ free1 ! $ move ! (22 ∷ 23 ∷ []) $ free1 ! $ move ! (20 ∷ 21 ∷ []) $ free1 ! $ move ! (18 ∷ 19 ∷ []) $ free1 ! $ move ! (16 ∷ 17 ∷ []) $ free1 ! $ move ! (14 ∷ 15 ∷ []) $ free1 ! $ move ! (12 ∷ 13 ∷ []) $ free1 ! $ move ! (10 ∷ 11 ∷ []) $ free1 ! $ move ! (8 ∷ 9 ∷ []) $ free1 ! $ move ! (6 ∷ 7 ∷ []) $ free1 ! $ free0 ! $
           let same : d ≡ Told ys p x = told-is ys p x in
-          keep ! (0 ∷ 1 ∷ []) $ by ! (exits 𝓟 𝓧 steppedᴬ Promise 𝓤 H A W κ q b o γ ys p x vp vx w y (zs .0) (e .0 ∙ ap answered same ∙ served ys (Ans ys p x) (Rfs p) right, e .1 ∙ ap (leftOf ys) same ∙ served ys (Lst ys p x) ys right) l iy))))))))))))))))))))))))))))))))))
+          keep ! (0 ∷ 1 ∷ []) $ by ! (exits (𝓟 ∷ 𝓧 ∷ []) steppedᴬ Promise 𝓤 H A W κ q b o γ ys (p, (x, tt)) (vp ∷ [], (vx ∷ [], tt)) w y (zs .0) (e .0 ∙ ap answered same ∙ served ys (Ans ys p x) (Rfs p) right, e .1 ∙ ap (leftOf ys) same ∙ served ys (Lst ys p x) ys right) l iy))))))))))))))))))))))))))))))))))
 
   module _ (told-is : (ys : List Request) (p : 𝓟 .X .Denot) (x : 𝓧 .X .Denot) → Deed ys p x ≡ Told ys p x) (ρ δ α π ξ θ φ : Ty) (#refuse #ask #scan #slot #core : Name) (typed-p : (p : 𝓟 .X .Denot) (u : Val) → Is (𝓟 .X) p (u ∷ []) → T (hasTy π u) × WT u) (typed-x : (x : 𝓧 .X .Denot) (u : Val) → Is (𝓧 .X) x (u ∷ []) → T (hasTy ξ u) × WT u) (typed-q : (c : 𝓠 .X .Denot) (u : Val) → Is (𝓠 .X) c (u ∷ []) → T (hasTy θ u) × WT u) (typed-f : (f : 𝓕 .X .Denot) (u : Val) → Is (𝓕 .X) f (u ∷ []) → T (hasTy φ u) × WT u) (typed-r : (e : Request) (u : Val) → Is R e (u ∷ []) → T (hasTy ρ u) × WT u) (typed-d : (d : Done) (u : Val) → Is DoneR d (u ∷ []) → T (hasTy δ u) × WT u) (typed-y : (y : Stepped) (u : Val) → Is SteppedR y (u ∷ []) → T (hasTy α u) × WT u)
       {M : Type 1} (𝓤 : URA M) (H : Heap 𝓤) (A : Atoms 𝓤) (W : Given 𝓤 H A) (mem : Memory → SProp 𝓤) (run : Routine → Fun 𝓤) (𝓣 : Tables 𝓤 H) (known-refuse : Triple 𝓤 (𝓣 .C #refuse) (gives1 𝓟 steppedᴬ Rfs 𝓤 H A)) (known-ask : Triple 𝓤 (𝓣 .C #ask) (gives2 𝓟 𝓧 𝓠 Ask 𝓤 H A)) (known-scan : Triple 𝓤 (𝓣 .C #scan) (looks 𝓠 𝓕 Scan 𝓤 H A)) (known-slot : Triple 𝓤 (𝓣 .C #slot) (gives2 𝓕 𝓧 (number w64) Slot 𝓤 H A)) (known-load : Triple 𝓤 (𝓣 .C #port·scans·load) (looks (number w64) request recordAt 𝓤 H A)) (known-core : Triple 𝓤 (𝓣 .C #core) (gives4 𝓟 request 𝓕 𝓧 doneᴬ Core 𝓤 H A)) (known-apply : Triple 𝓤 (𝓣 .C #port·leaves·left) (Apply 𝓤 H A mem run)) where
-    pub call-meets : Meets 𝓤 H A (ended 𝓟 𝓧 steppedᴬ .signature) (WpFn 𝓤 H (𝓣 .C) (𝓣 .Λ) (function ρ δ α π ξ θ φ #refuse #ask #scan #slot #core)) (closing 𝓤 H A (ended 𝓟 𝓧 steppedᴬ) (clauses 𝓟 𝓧 steppedᴬ Promise 𝓤))
-    call-meets = meets 𝓟 𝓧 steppedᴬ Promise 𝓤 H A W 𝓣 (function ρ δ α π ξ θ φ #refuse #ask #scan #slot #core) (λ κ q b o γ ys p x vp vx room gp gx.
-        walk told-is 𝓤 H A W mem run κ q b o γ ys p x vp vx room gp gx ρ δ α π ξ θ φ #refuse #ask #scan #slot #core (typed-p p vp gp) (typed-x x vx gx) typed-q typed-f typed-r typed-d typed-y (𝓣 .C) (𝓣 .Λ) (fmOf 𝓤 H (W .laws) 𝓣) known-refuse known-ask known-scan known-slot known-load known-core known-apply)
+    pub call-meets : Meets 𝓤 H A (ended (𝓟 ∷ 𝓧 ∷ []) steppedᴬ .signature) (WpFn 𝓤 H (𝓣 .C) (𝓣 .Λ) (function ρ δ α π ξ θ φ #refuse #ask #scan #slot #core)) (closing 𝓤 H A (ended (𝓟 ∷ 𝓧 ∷ []) steppedᴬ) (clauses (𝓟 ∷ 𝓧 ∷ []) steppedᴬ Promise 𝓤))
+    call-meets = meets (𝓟 ∷ 𝓧 ∷ []) steppedᴬ Promise 𝓤 H A W 𝓣 (function ρ δ α π ξ θ φ #refuse #ask #scan #slot #core) (λ κ q b o γ ys d room are.
+        walk told-is 𝓤 H A W mem run κ q b o γ ys (d .0) (d .1 .0) (𝓟 .val (d .0)) (𝓧 .val (d .1 .0)) room (are .0) (are .1 .0) ρ δ α π ξ θ φ #refuse #ask #scan #slot #core (typed-p (d .0) _ (are .0)) (typed-x (d .1 .0) _ (are .1 .0)) typed-q typed-f typed-r typed-d typed-y (𝓣 .C) (𝓣 .Λ) (fmOf 𝓤 H (W .laws) 𝓣) known-refuse known-ask known-scan known-slot known-load known-core known-apply)

@@ -2,7 +2,6 @@
 use Prim.Native.Nat.{ℕ, zero, suc}
 use mathlib.Core.List.{List, [], _∷_, map}
 use mathlib.Core.Path.{_≡_, refl, ap, subst, _∙_}
-use native.Mathlib.Omega.{arith}
 use lib.ListN.{length, getD}
 
 module _ {A B : Type 0} (f : A → B) (d : A) where

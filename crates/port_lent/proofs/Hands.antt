@@ -31,7 +31,7 @@ use Rattle.port_parts.specs.declared.Request.{Request}
 use Rattle.port.specs.Calls.{Called}
 use Rattle.port_list.proofs.Arg.{Arg}
 use Rattle.port_list.proofs.Rec.{R}
-use Rattle.port_list.proofs.Lent.{sliceOf, ended, clauses, called}
+use Rattle.port_list.proofs.Lent.{sliceOf, Values, ended, clauses, called}
 use Rattle.port.proofs.Rows.{SteppedR, stepped}
 
 -- that a value of a plain type has a MIR type
@@ -39,11 +39,11 @@ abbrev pub Typed : Arg → Ty → Type 0
 Typed 𝓐 τ = (x : 𝓐 .X .Denot) (u : Val) → Is (𝓐 .X) x (u ∷ []) → T (hasTy τ u) × WT u
 
 module _ (𝓟 𝓧 : Arg) (Rfs : 𝓟 .X .Denot → Stepped) (Tld : List Request → 𝓟 .X .Denot → 𝓧 .X .Denot → Done) where
-  abbrev pub Left : List Request → 𝓟 .X .Denot → 𝓧 .X .Denot → Stepped → List Request → Type 0
-  Left ys p x y zs = Called ys (Tld ys p x) (Rfs p) y zs
+  abbrev pub Left : List Request → Values (𝓟 ∷ 𝓧 ∷ []) → Stepped → List Request → Type 0
+  Left ys g y zs = Called ys (Tld ys (g .0) (g .1 .0)) (Rfs (g .0)) y zs
 
   abbrev pub callee : {M : Type 1} (𝓤 : URA M) (H : Heap 𝓤) (A : Atoms 𝓤) → Contract 𝓤
-  callee = called 𝓟 𝓧 stepped Left
+  callee = called (𝓟 ∷ 𝓧 ∷ []) stepped Left
 
   module _ {M : Type 1} (𝓤 : URA M) (H : Heap 𝓤) (A : Atoms 𝓤) (W : Given 𝓤 H A) (κ : Lft) (q : Share) (b o : ℕ) (γ : GName) (ys : List Request) (p : 𝓟 .X .Denot) (x : 𝓧 .X .Denot) (vp vx : Val) (gp : Is (𝓟 .X) p (vp ∷ [])) (gx : Is (𝓧 .X) x (vx ∷ [])) where
     abbrev sl : RefT (List Request)
@@ -55,7 +55,7 @@ module _ (𝓟 𝓧 : Arg) (Rfs : 𝓟 .X .Denot → Stepped) (Tld : List Reques
     abbrev arg : RefT (List Request) × (𝓟 .X .Denot × (𝓧 .X .Denot × Unit {0}))
     arg = (sl, (p, (x, tt)))
 
-    abbrev at : Vals (ended 𝓟 𝓧 stepped .signature) (κ, tt)
+    abbrev at : Vals (ended (𝓟 ∷ 𝓧 ∷ []) stepped .signature) (κ, tt)
     at = (s ∷ [], (vp ∷ [], (vx ∷ [], tt)))
 
     -- what the callee's triple binds outside, and that the caller has what it asks
@@ -69,13 +69,13 @@ module _ (𝓟 𝓧 : Arg) (Rfs : 𝓟 .X .Denot → Stepped) (Tld : List Reques
 
     module _ {K : Type 0} {Γ : List (Item 𝓤)} {E : Env 𝓤 H} {C : Calls 𝓤 H} {f : Name} {xs : List Operand} {Λ : Loops 𝓤 H} {k : Post 𝓤 H} {d : Place} where
       pub hands : K → FmC 𝓤 H (W .laws) C → {rest : Body} → Triple 𝓤 (C f) (callee 𝓤 H A) → Opds K W (raw (callee 𝓤 H A .pre to-call) ∷ Γ) E xs (s ∷ vp ∷ vx ∷ [])
-          → ((w : Val) (y : Stepped) (zs : List Request) → Left ys p x y zs → length zs ≡ length ys → Is SteppedR y (w ∷ []) → Seq K W ((‵ (flft κ q) ⊛ ‵ ftrue) ∷ ‵ (finally R γ zs) ∷ Γ) (lands C Λ E d w rest k))
+          → ((w : Val) (y : Stepped) (zs : List Request) → Left ys (p, (x, tt)) y zs → length zs ≡ length ys → Is SteppedR y (w ∷ []) → Seq K W ((‵ (flft κ q) ⊛ ‵ ftrue) ∷ ‵ (finally R γ zs) ∷ Γ) (lands C Λ E d w rest k))
           → Seq K W ((‵ (flft κ q) ⊛ ‵ ftrue) ∷ ‵ (MutSlice (named 0) κ R .own sl (s ∷ [])) ∷ Γ) (runs C Λ E (seq (call f xs d) rest) k)
       hands t fm known os on =
           use2 W (raw (callee 𝓤 H A .pre to-call)) goes-call $ calls-at t fm (callee 𝓤 H A) known to-call os (λ w.
-          use1 W (later (some (λ (y : Stepped). ((‵ (flft κ q) ⊛ ‵ ftrue) ⊛ ‵ (SteppedR .own y (w ∷ []))) ⊛ raw (ensured 𝓤 H A (ended 𝓟 𝓧 stepped) (clauses 𝓟 𝓧 stepped Left 𝓤) (κ, tt) arg tt y)))) (id⊢ 𝓤 _) $ await t tt $ pick t (λ y.
-          split t $ move t (1 ∷ []) $ use1 W (some (λ (zs : List Request × (Last (𝓟 .X .exit yes) p × (Last (𝓧 .X .exit yes) x × Unit {0}))). ‵ (lasts (ended 𝓟 𝓧 stepped) (κ, tt) arg zs) ⊛ raw (fact 𝓤 (Left ys p x y (zs .0))))) (id⊢ 𝓤 _) $ pick t (λ zs.
-          split t $ move t (1 ∷ []) $ heard t (Left ys p x y (zs .0)) (λ e. fsplit t $ fsplit t $ move t (1 ∷ []) $ feqL t (λ l.
+          use1 W (later (some (λ (y : Stepped). ((‵ (flft κ q) ⊛ ‵ ftrue) ⊛ ‵ (SteppedR .own y (w ∷ []))) ⊛ raw (ensured 𝓤 H A (ended (𝓟 ∷ 𝓧 ∷ []) stepped) (clauses (𝓟 ∷ 𝓧 ∷ []) stepped Left 𝓤) (κ, tt) arg tt y)))) (id⊢ 𝓤 _) $ await t tt $ pick t (λ y.
+          split t $ move t (1 ∷ []) $ use1 W (some (λ (zs : List Request × (Last (𝓟 .X .exit yes) p × (Last (𝓧 .X .exit yes) x × Unit {0}))). ‵ (lasts (ended (𝓟 ∷ 𝓧 ∷ []) stepped) (κ, tt) arg zs) ⊛ raw (fact 𝓤 (Left ys (p, (x, tt)) y (zs .0))))) (id⊢ 𝓤 _) $ pick t (λ zs.
+          split t $ move t (1 ∷ []) $ heard t (Left ys (p, (x, tt)) y (zs .0)) (λ e. fsplit t $ fsplit t $ move t (1 ∷ []) $ feqL t (λ l.
           move t (2 ∷ []) $ split t $ move t (1 ∷ []) $ facts t SteppedR (Is SteppedR) (shows 𝓤 H A SteppedR) y (w ∷ []) (λ iy.
           -- [the token; the last list; what is said of p and x]
           move t (2 ∷ []) $ drop t $ on w y (zs .0) e l iy))))))

@@ -1,6 +1,5 @@
 -- What C lends says what the machine has, call after call: a taken call shows its port, which says it again, and a refused one leaves all as it
 -- was lent. Assumes nothing.
-use Prim.Native.Nat.{ℕ}
 use mathlib.Core.Bool.{Bool, true, false, cond}
 use mathlib.Core.List.{List, [], _∷_}
 use mathlib.Core.Logic.{_↔_}

@@ -31,8 +31,7 @@ use Rattle.port_parts.specs.declared.Request.{Request}
 use Rattle.port_list.proofs.Arg.{Arg}
 use Rattle.port_list.proofs.Rec.{R}
 use Rattle.port_list.proofs.Callees.{gives1, calls1}
-use Rattle.port_list.proofs.Lent.{sliceOf}
-use Rattle.port_list.proofs.Plains.{Values, ended, clauses, PostOf, exits, meets}
+use Rattle.port_list.proofs.Lent.{sliceOf, Values, ended, clauses, PostOf, exits, meets}
 use Rattle.port.proofs.Rows.{stepped}
 use Rattle.port_lent.specs.declared.PortStep.{PortStep}
 use Rattle.port_lent.specs.Face.{setUp, Seen}

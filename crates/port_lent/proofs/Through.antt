@@ -33,8 +33,7 @@ use Rattle.port.specs.Calls.{short}
 use Rattle.port_list.proofs.Arg.{Arg}
 use Rattle.port_list.proofs.Rec.{R}
 use Rattle.port_list.proofs.Callees.{gives1, gives2, gives3, gives4, calls1, calls2, calls3, calls4}
-use Rattle.port_list.proofs.Lent.{sliceOf}
-use Rattle.port_list.proofs.Plains.{Values, ended, clauses, PostOf, exits, meets}
+use Rattle.port_list.proofs.Lent.{sliceOf, Values, ended, clauses, PostOf, exits, meets}
 use Rattle.port.proofs.Rows.{stepped, port}
 use Rattle.port_lent.specs.declared.Port.{Port as LentPort}
 use Rattle.port_lent.specs.declared.PortStep.{PortStep}

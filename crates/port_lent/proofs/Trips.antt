@@ -1,13 +1,11 @@
 -- Numbers and port say the same, member by member: a port that is shown is well formed. Assumes nothing.
 use Prim.Native.Nat.{ℕ, zero, suc, _<_}
-use mathlib.Core.Bool.{true, false, cond}
-use mathlib.Core.List.{List, [], _∷_, map}
-use mathlib.Core.Path.{_≡_, refl, sym, ap, subst, _∙_}
+use mathlib.Core.Bool.{true, false}
+use mathlib.Core.List.{List, [], _∷_}
+use mathlib.Core.Path.{_≡_, refl, sym, ap, _∙_}
 use native.Mathlib.Omega.{arith}
 use lib.ListN.{length, getD}
-use Rattle.laws.specs.Tests.{Says}
 use Rattle.laws.specs.Folds.{allBelow}
-use Rattle.laws.proofs.Bools.{and-left, and-right}
 use Rattle.laws.proofs.Folds.{all-says}
 use Rattle.laws.proofs.Tests.{equal, both}
 use Rattle.port_parts.specs.declared.Phy.{Phy}

@@ -7,4 +7,3 @@ pub mod FoldFrom
 pub mod Survey
 pub mod Leave
 pub mod Lent
-pub mod Plains

@@ -1,6 +1,4 @@
 -- The count is looked at where the port is well formed. Assumes nothing.
-use mathlib.Core.Bool.{cond}
-use mathlib.Core.Path.{sym, ap, _∙_}
 use borrow.Author.Needs.{needs}
 use Rattle.port_lent.proofs.count_of.Statement.{statement}
 use Rattle.port_lent.proofs.count_of.Tie as tie
