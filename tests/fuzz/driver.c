@@ -1,6 +1,6 @@
 /*
  * Drives the fuzz target where libFuzzer can't be had: inputs that are noise, frames that begin well with a few bytes off, and calls that
- * a transfer or a link takes.
+ * a transfer, a link or a port takes.
  *
  * usage: driver RUNS
  */
@@ -88,6 +88,23 @@ static size_t make_link(uint8_t *bytes)
 	return at;
 }
 
+/* A port of eight phys, which are enabled, with a loss time of a millisecond, and calls of any kind; hardly a byte is put anywhere. */
+static size_t make_port(uint8_t *bytes)
+{
+	enum { CALL = 8, ENABLE = 8, PUT = 10 };
+	static const uint8_t port[] = {6, 7, 0, 1};
+	size_t at = sizeof port;
+	memcpy(bytes, port, sizeof port);
+	for (size_t i = 0; i < 90; i++, at += CALL) {
+		bytes[at] = (uint8_t)(i < 8 ? ENABLE : below(50) ? 1 + below(9) : PUT);
+		bytes[at + 1] = (uint8_t)below(below(30) ? 250 : 256);
+		bytes[at + 3] = (uint8_t)(i < 8 ? i : below(8));
+		bytes[at + 4] = (uint8_t)below(below(8) ? 10 : 256);
+		bytes[at + 7] = (uint8_t)below(3);
+	}
+	return at;
+}
+
 static size_t make(uint8_t *bytes)
 {
 	for (size_t i = 0; i < LONGEST; i++) {
@@ -99,6 +116,7 @@ static size_t make(uint8_t *bytes)
 	case 1: len = make_data(bytes); break;
 	case 2: len = make_transfer(bytes); break;
 	case 3: len = make_link(bytes); break;
+	case 4: len = make_port(bytes); break;
 	default: break;
 	}
 	return len < LONGEST ? len : LONGEST;

@@ -19,8 +19,9 @@ void fill(struct input *in, void *to, size_t len);
 /* Ends the run if something isn't as it should be. */
 void require(int good, const char *what);
 
-/* The machines' calls, in machines.c. */
+/* The machines' calls, in machines.c and port.c. */
 void try_transfer(struct input *in);
 void try_link(struct input *in);
+void try_port(struct input *in);
 
 #endif
