@@ -88,16 +88,17 @@ static size_t make_link(uint8_t *bytes)
 	return at;
 }
 
-/* A port before setup, and calls on it, of which each takes six bytes; setups are rare. */
+/* A port before setup, and calls on it, of which each takes seven bytes; setups and spoilt bytes are rare. */
 static size_t make_port(uint8_t *bytes)
 {
-	static const uint8_t port[] = {6, 0, 0, 1, 3, 0, 0, 0};
-	size_t len = sizeof port + 6 * below(150);
+	static const uint8_t port[] = {6, 0, 0, 0, 1, 3, 0, 0, 0};
+	size_t len = sizeof port + 7 * below(140);
 	memcpy(bytes, port, sizeof port);
-	for (size_t i = sizeof port; i < len; i += 6) {
-		bytes[i] = (uint8_t)(below(40) ? 1 + below(9) : 0);
-		bytes[i + 1] = (uint8_t)(below(4) ? below(32) : below(256));
-		bytes[i + 2] = (uint8_t)below(5);
+	for (size_t i = sizeof port; i < len; i += 7) {
+		bytes[i] = (uint8_t)(below(60) ? 0 : below(256));
+		bytes[i + 1] = (uint8_t)(below(40) ? 1 + below(9) : 0);
+		bytes[i + 2] = (uint8_t)(below(4) ? below(32) : below(256));
+		bytes[i + 3] = (uint8_t)below(5);
 	}
 	return len;
 }

@@ -78,6 +78,18 @@ static void judge(const struct sonerwal_port *port, const struct order *o, const
 	}
 }
 
+/* Any byte anywhere in what is lent. */
+static void spoil(struct input *in, struct sonerwal_port *port)
+{
+	size_t at = number(in, 2) % (sizeof *port + sizeof list);
+	uint8_t byte = (uint8_t)number(in, 1);
+	if (at < sizeof *port) {
+		((uint8_t *)port)[at] = byte;
+	} else {
+		((uint8_t *)list)[at - sizeof *port] = byte;
+	}
+}
+
 void try_port(struct input *in)
 {
 	struct sonerwal_port port;
@@ -90,6 +102,10 @@ void try_port(struct input *in)
 	}
 	model_take(model, &port, list);
 	do {
+		if (number(in, 1) % 16 == 15) {
+			spoil(in, &port);
+			model_take(model, &port, list);
+		}
 		struct order o = any_call(in, &port);
 		memcpy(before, list, sizeof list);
 		struct sonerwal_port_step r = port_call(list, &port, &o, open_of(o.head));
