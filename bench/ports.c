@@ -137,6 +137,6 @@ int main(int argc, char **argv)
 {
 	struct bench bench = {"port's call", rows, sizeof rows / sizeof *rows, 2.00, prepare, same};
 	int status = compare(&bench, argc, argv);
-	show_crossing("a port", crossings, CALLS);
+	show_crossing("port's", crossings, CALLS);
 	return status;
 }
