@@ -10,6 +10,7 @@ use denote.Ref.{now}
 use Rattle.refusals.specs.Causes.{First}
 use Rattle.refusals.specs.Refusals.{numberOf}
 use Rattle.refusals.specs.declared.Refusal.{Refusal}
+use Rattle.open_lent.specs.Typed.{typedOpen}
 use Rattle.port_parts.specs.Reasons.{reasonOf}
 use Rattle.port_parts.specs.declared.Port.{Port}
 use Rattle.port_parts.specs.declared.Reason.{Reason}
@@ -31,9 +32,9 @@ use Rattle.port_lent.specs.Lent.{formed, noPort, portOf, portShown}
 use Rattle.port_lent.specs.Given.{timeOf, submissionOf, withdrawnOf, confirmedOf, failureOf, reportOf}
 use Rattle.port_lent.specs.Face.{shown, refused}
 use Rattle.port_lent.specs.Runs.{Lent, stateOf, plainly, Keeps, lentTo, faceOf, listOf, Sees, isRefusal, leave, run}
-use Rattle.port_lent.specs.Typed.{typedWords, typedAnswers, typedDetails, typedReasons, typedLent, typedPort}
+use Rattle.port_lent.specs.Typed.{typedWords, typedAnswers, typedDetails, typedReasons, typedLent, typedPort, typedSubmission, typedWithdrawn, typedTime, typedConfirmed, typedFailure, typedReport}
 use Rattle.port_lent.proofs.Words.{reason-back, refusal-exactly, one-word, words-typed, details-typed, reasons-typed}
-use Rattle.port_lent.proofs.Trips.{shown-formed, formed-says, port-back, lent-back, typed-says, typed-shown}
+use Rattle.port_lent.proofs.Trips.{shown-formed, formed-says, port-back, lent-back, typed-says, typed-shown, typed-submission, typed-withdrawn, typed-time, typed-confirmed, typed-failure, typed-report}
 use Rattle.port_lent.proofs.Runs.{said, refusal-is, refuses, keeps-exactly, unset, leaves, runs}
 use Rattle.sonerwal.proofs.ports.sonerwal_port_setup as face-setup
 use Rattle.sonerwal.proofs.ports.sonerwal_port_submit as face-submit
@@ -126,6 +127,13 @@ pub record PortFace : Type 2 where
   pub typed-reasons : map reasonNumber typedReasons ≡ 0 ∷ 1 ∷ 2 ∷ 3 ∷ 4 ∷ 5 ∷ 6 ∷ 7 ∷ 8 ∷ 9 ∷ []
   pub typed : portOf typedLent ≡ typedPort
   pub typed-shown : portShown typedPort ≡ typedLent
+  -- and so does each that a call is given
+  pub typed-submission : submissionOf typedOpen 60 ≡ typedSubmission
+  pub typed-withdrawn : withdrawnOf 61 62 63 64 ≡ typedWithdrawn
+  pub typed-time : timeOf 65 ≡ typedTime
+  pub typed-confirmed : confirmedOf 66 67 ≡ typedConfirmed
+  pub typed-failure : failureOf 68 69 70 ≡ typedFailure
+  pub typed-report : reportOf 71 72 73 ≡ typedReport
 
 pub port-face : PortFace
 unfolding doneOf
@@ -160,4 +168,10 @@ port-face = record {
   typed-reasons = reasons-typed;
   typed = typed-says;
   typed-shown = typed-shown;
+  typed-submission = typed-submission;
+  typed-withdrawn = typed-withdrawn;
+  typed-time = typed-time;
+  typed-confirmed = typed-confirmed;
+  typed-failure = typed-failure;
+  typed-report = typed-report;
 }

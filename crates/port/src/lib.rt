@@ -50,8 +50,8 @@ struct Seeking {
 }
 
 struct Place {
-    kept: bool,
     room: Room,
+    kept: bool,
 }
 
 // What a cancel looks for.

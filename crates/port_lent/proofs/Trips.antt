@@ -8,6 +8,7 @@ use lib.ListN.{length, getD}
 use Rattle.laws.specs.Folds.{allBelow}
 use Rattle.laws.proofs.Folds.{all-says}
 use Rattle.laws.proofs.Tests.{equal, both}
+use Rattle.open_lent.specs.Typed.{typedOpen}
 use Rattle.port_parts.specs.declared.Phy.{Phy}
 use Rattle.port_parts.specs.declared.Port.{Port}
 use Rattle.port_rows.specs.Answers as answers
@@ -15,7 +16,8 @@ use Rattle.port_lent.specs.declared.Phy.{Phy as LentPhy}
 use Rattle.port_lent.specs.declared.Port.{Port as LentPort}
 use Rattle.port_lent.specs.Lent.{phyFormed, noPhy, physFormed, formed, noPort, phyOf, physOf, countOf, portOf, phyShown, physShown, portShown}
 use Rattle.port_lent.specs.Runs.{plainly}
-use Rattle.port_lent.specs.Typed.{typedLent, typedPort}
+use Rattle.port_lent.specs.Given.{submissionOf, withdrawnOf, timeOf, confirmedOf, failureOf, reportOf}
+use Rattle.port_lent.specs.Typed.{typedLent, typedPort, typedSubmission, typedWithdrawn, typedTime, typedConfirmed, typedFailure, typedReport}
 
 -- ---- what is shown says the port
 
@@ -73,3 +75,23 @@ typed-says = refl
 
 pub typed-shown : portShown typedPort ≡ typedLent
 typed-shown = refl
+
+-- ---- what the calls are given
+
+pub typed-submission : submissionOf typedOpen 60 ≡ typedSubmission
+typed-submission = refl
+
+pub typed-withdrawn : withdrawnOf 61 62 63 64 ≡ typedWithdrawn
+typed-withdrawn = refl
+
+pub typed-time : timeOf 65 ≡ typedTime
+typed-time = refl
+
+pub typed-confirmed : confirmedOf 66 67 ≡ typedConfirmed
+typed-confirmed = refl
+
+pub typed-failure : failureOf 68 69 70 ≡ typedFailure
+typed-failure = refl
+
+pub typed-report : reportOf 71 72 73 ≡ typedReport
+typed-report = refl

@@ -1,12 +1,18 @@
--- The port's numbers and a port a second time, typed. Assumes nothing.
+-- The port's numbers, a port and what its calls are given a second time, typed. Assumes nothing.
 use Prim.Native.Nat.{ℕ}
 use mathlib.Core.List.{List, [], _∷_}
 use Rattle.refusals.specs.declared.Refusal.{Refusal}
 use Rattle.port_parts.specs.declared.Phy.{Phy}
 use Rattle.port_parts.specs.declared.Port.{Port}
 use Rattle.port_parts.specs.declared.Reason.{Reason}
+use Rattle.port_rows.specs.declared.Submission.{Submission}
+use Rattle.port_rows.specs.declared.Withdrawn.{Withdrawn}
+use Rattle.port_rows.specs.declared.Confirmed.{Confirmed}
+use Rattle.port_rows.specs.declared.Failure.{Failure}
+use Rattle.port_rows.specs.declared.Report.{Report}
 use Rattle.port_rows.specs.declared.Word.{Word}
 use Rattle.port_rows.specs.declared.Word.the-variants.{Refused}
+use Rattle.port.specs.declared.Time.{Time}
 use Rattle.port_lent.specs.declared.Phy.{Phy as LentPhy}
 use Rattle.port_lent.specs.declared.Port.{Port as LentPort}
 
@@ -55,3 +61,22 @@ typedPort = record {
   last = 40;
   phys = phy 41 4 5 2 ∷ phy 42 3 32 1 ∷ phy 43 6 7 2 ∷ phy 44 1 32 0 ∷ phy 45 2 9 0 ∷ phy 46 5 10 1 ∷ phy 47 0 32 0 ∷ phy 48 0 11 1 ∷ [];
 }
+
+-- what the calls are given, of numbers that all differ; a submit of OPEN's typed frame
+abbrev pub typedSubmission : Submission
+typedSubmission = record { head = record { initiator = 1; protocol = 2; features = 3; rate = 9; tag = 23; destination = 21; source = 22 }; now = 60 }
+
+abbrev pub typedWithdrawn : Withdrawn
+typedWithdrawn = record { key = record { destination = 61; protocol = 62; tag = 63 }; now = 64 }
+
+abbrev pub typedTime : Time
+typedTime = record { now = 65 }
+
+abbrev pub typedConfirmed : Confirmed
+typedConfirmed = record { phy = 66; now = 67 }
+
+abbrev pub typedFailure : Failure
+typedFailure = record { phy = 68; why = 69; now = 70 }
+
+abbrev pub typedReport : Report
+typedReport = record { phy = 71; status = 72; now = 73 }

@@ -66,12 +66,12 @@ pub struct Done {
 
 // What submit finds in the list.
 pub struct Room {
+    // The loss timer of its destination; first, so that a copy of the whole has no gap before it.
+    pub loss: Stamp,
     // The lowest free slot, 32 if there is none.
     pub free: u8,
     // Whether a request with its key is present.
     pub same: bool,
-    // The loss timer of its destination.
-    pub loss: Stamp,
 }
 
 // What a submit gives.
