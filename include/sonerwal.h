@@ -33,15 +33,15 @@
  * one to go on with, which may be copied, compared and saved like any other number. All zeros is the transfer before
  * START, a link in XL0 that remembers nothing, and a port before setup. No struct that is lent has padding: what
  * would be padding is a member named zero4, zero2 or zero1 by its bytes, and is 0 in every state that a call gives
- * back. A state is looked at as a whole, so that one that no calls could have left is SONERWAL_REFUSED_RULES, and
- * not a wrong step.
+ * back. Each call looks at the whole state first: one that breaks the rules beside its struct is
+ * SONERWAL_REFUSED_RULES, and not a wrong step.
  *
  * ANSWERS (01, Refusal numbers)
  *
  * A call answers one byte, enum sonerwal_answer: SONERWAL_OK, a refusal of 1 to 10, or from 16 on what happened.
  * Where several refusals apply the lowest number is given, but for sonerwal_transfer_next(), which has an order
  * of its own. A refusal gives back the state as it was lent, to the last member, and leaves every lent byte,
- * number and record as it was; so `s = r.state` is right after every call.
+ * number and record as it was; so `s = r.state` is right after every call but a setup, whose refusal gives no port.
  */
 #ifndef SONERWAL_H
 #define SONERWAL_H
