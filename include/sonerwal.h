@@ -796,8 +796,8 @@ struct sonerwal_port_step sonerwal_port_setup(struct sonerwal_request *list, siz
 struct sonerwal_port_step sonerwal_port_submit(struct sonerwal_request *list, size_t length, struct sonerwal_port port,
                                                struct sonerwal_open head, uint64_t now);
 
-/* The request isn't wanted any more: SONERWAL_CANCEL_ACKNOWLEDGED while it waits, SONERWAL_STOP_ARB while its phy opens,
- * SONERWAL_CLOSE while that is connected. Unfit: it is absent, or already cancelled. */
+/* The request isn't wanted any more: SONERWAL_CANCEL_ACKNOWLEDGED if it waits, SONERWAL_STOP_ARB if its phy opens, else
+ * SONERWAL_CLOSE. Unfit: it is absent, or already cancelled. */
 struct sonerwal_port_step sonerwal_port_cancel(struct sonerwal_request *list, size_t length, struct sonerwal_port port,
                                                uint64_t destination, uint8_t protocol, uint16_t tag, uint64_t now);
 
@@ -821,8 +821,8 @@ struct sonerwal_port_step sonerwal_port_frame_status(struct sonerwal_request *li
                                                      struct sonerwal_port port, uint8_t phy, uint8_t status,
                                                      uint64_t now);
 
-/* The connection is gone: SONERWAL_CONNECTION_LOST or SONERWAL_CANCEL_ACKNOWLEDGED if a frame was out, else SONERWAL_OK.
- * Unfit: the phy is neither connected nor closing. */
+/* The connection is gone: SONERWAL_CONNECTION_LOST or SONERWAL_CANCEL_ACKNOWLEDGED if the phy named a request, else
+ * SONERWAL_OK. Unfit: it is neither connected nor closing. */
 struct sonerwal_port_step sonerwal_port_closed(struct sonerwal_request *list, size_t length, struct sonerwal_port port,
                                                uint8_t phy, uint64_t now);
 
