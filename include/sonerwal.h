@@ -759,7 +759,7 @@ SONERWAL_SIZE(request, 88);
  *   slot    of the request that is named, 32 if none is
  *   phy     that is named, 8 if none is
  *
- * With a refusal the port and the list are as they were lent, and nothing is named.
+ * With a refusal the port and the list are as they were lent, and nothing is named. What lies behind phy isn't promised.
  */
 struct sonerwal_port_step {
 	struct sonerwal_port port;
