@@ -11,3 +11,5 @@ pub mod Finds
 pub mod Maps
 pub mod Places
 pub mod Names
+pub mod Tags
+pub mod Counts

@@ -4,3 +4,4 @@ pub mod Sets
 pub mod Folds
 pub mod Tests
 pub mod Names
+pub mod Tags
