@@ -3,10 +3,12 @@ use mathlib.Core.Path.{_≡_}
 use mathlib.Core.Bool.{true, _&&_}
 use mathlib.Core.List.{List}
 use Prim.Native.Nat.{ℕ, _%_, _^_, _≤_, _<_}
-use lib.Dec.{eqb, ltb, leb}
+use lib.Dec.{ltb, leb}
 use lib.ListN.{getD}
 use borrow.Author.Tests.{eqb-true, ltb-true, leb-true, eq-eqb, lt-ltb, le-leb}
+use Rattle.laws.specs.Tests.{Says}
 use Rattle.laws.proofs.Bools.{and-left, and-right, and-true}
+use Rattle.laws.proofs.Tests.{less, equal, both, means}
 use Rattle.wire.specs.Be.{beAt}
 use Rattle.ssp_frame.specs.Header.{headerOf, isBlank}
 use Rattle.ssp_frame.specs.Data.{frameEnd, dataSized, dataListed, frameSized, kindListed}
@@ -66,6 +68,19 @@ sized n h =
 pub is-sized : (n : ℕ) → Sized n → frameSized n ≡ true
 is-sized n z = and-true (le-leb 28 n (z .least)) (and-true (le-leb n 1048 (z .most)) (eq-eqb (n % 4) 0 (z .four)))
 
+-- what no field of a header holds
+pub record Blank (s : List ℕ) : Type 0 where
+  pub gap : getD s 4 0 ≡ 0
+  pub pair : beAt s 8 2 ≡ 0
+  pub fill : getD s 11 0 < 4
+  pub word : beAt s 12 4 ≡ 0
+
+pub blank : (s : List ℕ) → Says (isBlank s) (Blank s)
+blank s = means (both (equal _ 0) (both (equal _ 0) (both (less _ 4) (equal _ 0)))) (
+  λ p. record { gap = p .0; pair = p .1 .0; fill = p .1 .1 .0; word = p .1 .1 .1 },
+  λ (b : Blank s). (b .gap, (b .pair, (b .fill, b .word))),
+)
+
 -- a header of DATA, byte by byte
 pub record Laid (s : List ℕ) : Type 0 where
   pub gap : getD s 4 0 ≡ 0
@@ -78,24 +93,12 @@ pub record Laid (s : List ℕ) : Type 0 where
 
 pub laid : (s : List ℕ) → isBlank s && kindListed (headerOf s) ≡ true → Laid s
 laid s h =
-    let b1 = and-left (isBlank s) _ h in
-    let b2 = and-right (eqb (getD s 4 0) 0) _ b1 in
-    let b3 = and-right (eqb (beAt s 8 2) 0) _ b2 in
-    let k1 = and-right (isBlank s) _ h in
-    let k2 = and-right (eqb (getD s 0 0) 1) _ k1 in
-    record {
-      gap = eqb-true (getD s 4 0) 0 (and-left (eqb (getD s 4 0) 0) _ b1);
-      pair = eqb-true (beAt s 8 2) 0 (and-left (eqb (beAt s 8 2) 0) _ b2);
-      fill = ltb-true (getD s 11 0) 4 (and-left (ltb (getD s 11 0) 4) _ b3);
-      word = eqb-true (beAt s 12 4) 0 (and-right (ltb (getD s 11 0) 4) _ b3);
-      kind = eqb-true (getD s 0 0) 1 (and-left (eqb (getD s 0 0) 1) _ k1);
-      bits = ltb-true (getD s 10 0) 2 (and-left (ltb (getD s 10 0) 2) _ k2);
-      ones = eqb-true (beAt s 18 2) 65535 (and-right (ltb (getD s 10 0) 2) _ k2);
-    }
+    let b = blank s .0 (and-left (isBlank s) _ h) in
+    let k = both (equal _ 1) (both (less _ 2) (equal _ 65535)) .0 (and-right (isBlank s) _ h) in
+    record { gap = b .gap; pair = b .pair; fill = b .fill; word = b .word; kind = k .0; bits = k .1 .0; ones = k .1 .1 }
 
 pub is-laid : (s : List ℕ) → Laid s → isBlank s && kindListed (headerOf s) ≡ true
 is-laid s l =
     and-true
-    (and-true (eq-eqb (getD s 4 0) 0 (l .gap))
-    (and-true (eq-eqb (beAt s 8 2) 0 (l .pair)) (and-true (lt-ltb (getD s 11 0) 4 (l .fill)) (eq-eqb (beAt s 12 4) 0 (l .word)))))
-    (and-true (eq-eqb (getD s 0 0) 1 (l .kind)) (and-true (lt-ltb (getD s 10 0) 2 (l .bits)) (eq-eqb (beAt s 18 2) 65535 (l .ones))))
+    (blank s .1 (record { gap = l .gap; pair = l .pair; fill = l .fill; word = l .word }))
+    (both (equal _ 1) (both (less _ 2) (equal _ 65535)) .1 (l .kind, (l .bits, l .ones)))

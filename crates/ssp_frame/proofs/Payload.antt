@@ -1,7 +1,8 @@
--- A payload is the data with zeros behind it; lent the part of the output behind the header, the payload writer completes the
--- frame, since what was written before stays. Assumes nothing.
+-- A payload is the data with zeros behind it; lent the part of the output behind what was written before, the payload writer
+-- completes the frame, since that stays. Assumes nothing.
 use mathlib.Core.Path.{_≡_, refl, _∙_, ap, sym}
-use mathlib.Core.List.{List, _++_, append-assoc}
+use mathlib.Core.Bool.{Bool}
+use mathlib.Core.List.{List, [], _∷_, _++_, append-assoc, append-nil}
 use Prim.Native.Nat.{ℕ, zero, suc, _+_, _-_, _<_}
 use native.Mathlib.Nat.{add-assoc}
 use native.Mathlib.Omega.{arith}
@@ -11,7 +12,11 @@ use borrow.Rule.Slice.PartMut.{putMid}
 use Rattle.laws.proofs.Lists.{lent-tail, back-tail}
 use Rattle.wire.specs.Be.{beBytes, putBe}
 use Rattle.wire.proofs.Laws.{fit, put-in}
-use Rattle.ssp_frame.specs.Data.{PayloadFits}
+use Rattle.refusals.specs.Causes.{refuse, bufferCauses, Wrote}
+use Rattle.refusals.specs.declared.Written.{Written}
+use Rattle.refusals.specs.declared.Written.the-variants.{Done, Refused}
+use Rattle.ssp_frame.specs.Data.{fillOf, padded, PayloadFits, dataSized, frameLeft}
+use Rattle.ssp_frame.specs.declared.header.Header.{Header}
 
 -- what was copied to the front is found there
 pub held : (body rest block : List ℕ) → block ≡ take (length body) body ++ rest → take (length body) block ≡ body
@@ -45,13 +50,43 @@ pub payload : (body out l src after : List ℕ) (fill : ℕ) → src ≡ body �
 payload body out l src after fill is zeros e =
     e ∙ (λ i. take (length (is i)) (is i) ++ drop (length (is i)) l) ∙ (λ i. take-length body i ++ zeros i)
 
--- 24 header bytes h, and then the payload behind them, are the frame
-pub framed : (h body out l ys : List ℕ) (fill : ℕ) → length h ≡ 24 → l ≡ h ++ drop 24 out → ys ≡ body ++ (replicate fill 0 ++ drop (length body + fill) (take (length l - 24) (drop 24 l))) → putMid 24 (length l - 24) l ys ≡ (h ++ (body ++ replicate fill 0)) ++ drop (24 + length body + fill) out
-framed h body out l ys fill long el ey =
+-- what stands behind a front of k bytes, where the rest stayed
+behind-front : (k : ℕ) (front out l : List ℕ) → length front ≡ k → l ≡ front ++ drop k out → drop k l ≡ drop k out
+behind-front k front out l long el = ap (drop k) el ∙ drop-at front (drop k out) k long
+
+-- a front of k bytes, and then the payload behind it, are the frame
+pub framed : (k : ℕ) (front body out l ys : List ℕ) (fill : ℕ) → length front ≡ k → l ≡ front ++ drop k out
+    → ys ≡ body ++ (replicate fill 0 ++ drop (length body + fill) (take (length l - k) (drop k l)))
+    → putMid k (length l - k) l ys ≡ (front ++ (body ++ replicate fill 0)) ++ drop (k + length body + fill) out
+framed k front body out l ys fill long el ey =
     let n = length body in
-    let behind : drop 24 l ≡ drop 24 out = ap (drop 24) el ∙ drop-at h (drop 24 out) 24 long in
-    let rest : drop (n + fill) (take (length l - 24) (drop 24 l)) ≡ drop (24 + n + fill) out =
-    ap (drop (n + fill)) (lent-tail 24 l ∙ behind) ∙ drop-drop (n + fill) 24 out ∙ ap (λ (m : ℕ). drop m out) (sym (add-assoc 24 n fill)) in
-    back-tail 24 l ys
-    ∙ (λ i. (ap (take 24) el ∙ take-at h (drop 24 out) 24 long) i ++ (ey ∙ ap (λ (z : List ℕ). body ++ (replicate fill 0 ++ z)) rest) i)
+    let rest : drop (n + fill) (take (length l - k) (drop k l)) ≡ drop (k + n + fill) out =
+    ap (drop (n + fill)) (lent-tail k l ∙ behind-front k front out l long el) ∙ drop-drop (n + fill) k out ∙ ap (λ (m : ℕ). drop m out) (sym (add-assoc k n fill)) in
+    back-tail k l ys
+    ∙ (λ i. (ap (take k) el ∙ take-at front (drop k out) k long) i ++ (ey ∙ ap (λ (z : List ℕ). body ++ (replicate fill 0 ++ z)) rest) i)
     ∙ simp append-assoc
+
+-- a front of k bytes, and then a row of n bytes behind it
+pub rowed : (k n : ℕ) (front row out l after : List ℕ) → length front ≡ k → l ≡ front ++ drop k out → after ≡ take k l ++ (row ++ drop (k + n) l) → after ≡ (front ++ row) ++ drop (k + n) out
+rowed k n front row out l after long el ea =
+    let rest : drop (k + n) l ≡ drop (k + n) out = sym (drop-drop n k l) ∙ ap (drop n) (behind-front k front out l long el) ∙ drop-drop n k out in
+    ea
+    ∙ (λ i. (ap (take k) el ∙ take-at front (drop k out) k long) i ++ (row ++ rest i))
+    ∙ sym (append-assoc front row (drop (k + n) out))
+
+-- where there is no data, the front is the frame
+pub unfilled : (k : ℕ) (front body out : List ℕ) → length body ≡ 0 → front ++ drop k out ≡ (front ++ padded body) ++ drop (k + length body + fillOf (length body)) out
+unfilled k front [] out e =
+    let same : k + 0 + 0 ≡ k = omega arith in
+    λ i. sym (append-nil front) i ++ drop (sym same i) out
+unfilled k front (x ∷ body) out e = absurd (omega arith)
+
+-- what a writer of a header and a body promises, of the header and the test that its caller computed
+module _ (body out : List ℕ) where
+  pub wrote-as : {h g : Header} {t u : Bool} {after : List ℕ} {r : Written} → h ≡ g → t ≡ u
+      → Wrote (bufferCauses (dataSized (length body) (length out)) t) (frameLeft h body out) out r after
+      → Wrote (bufferCauses (dataSized (length body) (length out)) u) (frameLeft g body out) out r after
+  wrote-as e d w = record {
+    answer = w .answer ∙ (λ i. refuse Refused (bufferCauses (dataSized (length body) (length out)) (d i)) Done);
+    bytes = w .bytes ∙ (λ i. refuse (λ _. out) (bufferCauses (dataSized (length body) (length out)) (d i)) (frameLeft (e i) body out));
+  }

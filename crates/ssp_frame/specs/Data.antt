@@ -18,9 +18,17 @@ use Rattle.ssp_frame.specs.declared.data.DataRead.the-variants.{Frame, R
 abbrev pub fillOf : ℕ → ℕ
 fillOf n = (4 - n % 4) % 4
 
+-- data and the zeros behind it
+abbrev pub padded : List ℕ → List ℕ
+padded body = body ++ replicate (fillOf (length body)) 0
+
 -- the length of the frame of n bytes of data
 abbrev pub frameEnd : ℕ → ℕ
 frameEnd n = 24 + n + fillOf n
+
+-- an output with a header, the data and its fill at its front
+abbrev pub frameLeft : Header → List ℕ → List ℕ → List ℕ
+frameLeft h body out = (layBytes (headerFields h) ++ padded body) ++ drop (frameEnd (length body)) out
 
 -- 01 DATA.1: transfer tag 18-19 all ones
 -- and type 1
@@ -79,6 +87,10 @@ kindListed h = eqb (h .kind) 1 && (ltb (h .bits) 2 && eqb (h .transfer) 65535)
 
 abbrev pub filled : List ℕ → Bool
 filled s = eqb (beAt s (length s - getD s 11 0) (getD s 11 0)) 0
+
+-- "the rest zero", and the fill
+abbrev pub restZero : List ℕ → Bool
+restZero s = isBlank s && filled s
 
 -- 01 REFUSAL.1 01 REFUSAL.2
 -- 01 DATA.4: any header byte off this layout or fill not zero is 2

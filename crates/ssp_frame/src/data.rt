@@ -1,11 +1,11 @@
 // The DATA frame of a read: the header, the data, and zeros up to a multiple of four bytes.
 ghost use mathlib.Core.Path.{_≡_};
 ghost use mathlib.Core.List.{_++_};
-ghost use Prim.Native.Nat.{_+_, _%_, _^_, _<_};
+ghost use Prim.Native.Nat.{_+_, _%_, _^_, _<_, _≤_};
 ghost use lib.Dec.{eqb};
 ghost use lib.ListN.{length, drop, replicate};
-ghost use Rattle.refusals.specs.Causes.{Wrote};
-ghost use Rattle.ssp_frame.specs.Data.{fillOf, dataHeader, dataListed, dataSized, PayloadFits, frameSized, kindListed, readData, writeCauses, dataLeft};
+ghost use Rattle.refusals.specs.Causes.{bufferCauses, Wrote};
+ghost use Rattle.ssp_frame.specs.Data.{fillOf, frameLeft, dataHeader, dataListed, dataSized, PayloadFits, frameSized, kindListed, restZero, readData, writeCauses, dataLeft};
 use crate::header;
 use crate::header::Header;
 use refusals::Refusal;
@@ -34,7 +34,7 @@ pub enum DataRead {
 }
 
 // How many zeros follow n bytes of data.
-fn fill_of(n: usize) -> usize
+pub(crate) fn fill_of(n: usize) -> usize
     ensures { λ r. ⌜ r ≡ fillOf n ⌝ }
 {
     (4 - n % 4) % 4
@@ -84,7 +84,7 @@ fn put_fill(n: usize, fill: usize, out: &mut [u8])
 
 // The data, then the zeros, at the front of what is lent; the bytes past them stay. The block apart from body and out lets the
 // compiler copy at once: it need not ask whether those two overlap.
-fn put_payload(body: &[u8], fill: usize, out: &mut [u8])
+pub(crate) fn put_payload(body: &[u8], fill: usize, out: &mut [u8])
     requires { ⌜ PayloadFits (length (now body)) fill (length (now out)) ⌝ }
     ensures { λ _. ⌜ now (out .exit) ≡ now (body .entry) ++ (replicate fill 0 ++ drop (length (now (body .entry)) + fill) (now (out .entry))) ⌝ }
 {
@@ -96,25 +96,36 @@ fn put_payload(body: &[u8], fill: usize, out: &mut [u8])
 }
 
 // 01 FORM.1: The part of the output slice from 24 on is lent to the payload writer.
-// The frame, at the front of out; the bytes past it stay, and on a refusal all of them.
-pub fn write_data(h: DataHead, body: &[u8], out: &mut [u8]) -> Written
-    ensures { λ r. ⌜ Wrote (writeCauses h (now (body .entry)) (now (out .entry))) (dataLeft h (now (body .entry)) (now (out .entry))) (now (out .entry)) r (now (out .exit)) ⌝ }
+// A header that is listed or not, the data and its fill, at the front of out; the bytes past them stay, and on a refusal all of them.
+pub(crate) fn write_frame(h: Header, listed: bool, body: &[u8], out: &mut [u8]) -> Written
+    ensures { λ r. ⌜ Wrote (bufferCauses (dataSized (length (now (body .entry))) (length (now (out .entry)))) listed) (frameLeft h (now (body .entry)) (now (out .entry))) (now (out .entry)) r (now (out .exit)) ⌝ }
 {
     let n = body.len();
     if !data_sized(n, out.len()) {
         return Written::Refused(Refusal::Length);
     }
-    if !data_listed(h) {
+    if !listed {
         return Written::Refused(Refusal::Unlisted);
     }
-    let fill = fill_of(n);
-    header::put_header(data_header(h, fill as u8), out);
-    put_payload(body, fill, &mut out[24..]);
+    header::put_header(h, out);
+    put_payload(body, fill_of(n), &mut out[24..]);
     Written::Done
 }
 
+// The frame, at the front of out; the bytes past it stay, and on a refusal all of them.
+pub fn write_data(h: DataHead, body: &[u8], out: &mut [u8]) -> Written
+    ensures { λ r. ⌜ Wrote (writeCauses h (now (body .entry)) (now (out .entry))) (dataLeft h (now (body .entry)) (now (out .entry))) (now (out .entry)) r (now (out .exit)) ⌝ }
+{
+    write_frame(
+        data_header(h, fill_of(body.len()) as u8),
+        data_listed(h),
+        body,
+        out,
+    )
+}
+
 // Whether a frame of n bytes is taken.
-fn frame_sized(n: usize) -> bool
+pub(crate) fn frame_sized(n: usize) -> bool
     ensures { λ r. ⌜ r ≡ frameSized n ⌝ }
 {
     (28 <= n) & ((n <= 1048) & (n % 4 == 0))
@@ -138,6 +149,17 @@ fn ends_zero(word: u64, fill: u8) -> bool
         2 => word % 0x10000 == 0,
         _ => word % 0x1000000 == 0,
     }
+}
+
+// Whether the bytes and bits of no field are zero, and so is the fill.
+pub(crate) fn rest_zero(s: &[u8]) -> bool
+    requires { ⌜ 24 ≤ length (now s) ⌝ }
+    ensures { λ r. ⌜ r ≡ restZero (now (s .entry)) ⌝ }
+{
+    if !header::is_blank(s) {
+        return false;
+    }
+    ends_zero(wire::get_be(s, s.len() - 4, 4), header::header_of(s).fill)
 }
 
 // The frame that s holds.

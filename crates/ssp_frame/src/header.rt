@@ -12,7 +12,7 @@ pub struct Header {
     // The hashed addresses, 24 bits each.
     pub destination: u32,
     pub source: u32,
-    // Byte 10: bit 0 is the changing data pointer.
+    // Byte 10: bit 0 is the changing data pointer, bit 1 retransmit, bit 2 retry data frames.
     pub bits: u8,
     // How many fill bytes end the frame, 0 to 3.
     pub fill: u8,

@@ -1,48 +1,11 @@
--- Each way out of `write_data` is a way out of a frame's writer; the last writes the header, and then lends the part behind it.
--- Assumes nothing.
-use mathlib.Core.Path.{_≡_, refl, _∙_, ap, sym}
-use mathlib.Core.List.{_++_}
-use mathlib.Core.Bool.{true}
-use Prim.Native.Nat.{ℕ, _+_}
-use native.Mathlib.Omega.{arith}
-use lib.ListN.{length, drop, replicate, length-drop}
+-- `write_data` writes its own header as any other, and refuses by its own test. Assumes nothing.
+use mathlib.Core.Path.{_∙_, ap}
 use denote.Ref.{now}
 use borrow.Author.Needs.{needs}
-use borrow.Author.Tests.{not-true, not-false}
-use Rattle.laws.proofs.Lists.{lent-tail}
-use Rattle.wire.specs.Fields.{layBytes}
-use Rattle.refusals.proofs.Frames.{wrote-length, wrote-field, wrote-done}
-use Rattle.ssp_frame.specs.Header.{headerFields}
-use Rattle.ssp_frame.specs.Data.{dataHeader, dataLeft, dataSized, dataListed}
-use Rattle.ssp_frame.specs.declared.header.Header.{Header}
-use Rattle.ssp_frame.proofs.Fields.{Fitting, fitting}
-use Rattle.ssp_frame.proofs.Payload.{framed}
+use Rattle.ssp_frame.specs.Data.{dataHeader}
+use Rattle.ssp_frame.proofs.Payload.{wrote-as}
 use Rattle.ssp_frame.proofs.data.write_data.Statement.{statement}
 use Rattle.ssp_frame.proofs.data.write_data.Tie as tie
-
-data-sized-requires : tie.Need-data-sized-requires
-data-sized-requires c κs = search needs
-
-returns : tie.Need-returns
-returns c =
-    let a = c .before .before .before .before .args in
-    wrote-length (dataLeft (a .h) (now (a .body)) (now (a .out))) (now (a .out)) (dataListed (a .h)) (sym (c .before .data-sized .ensures) ∙ not-true _ (c .if1 .taken))
-
--- the lengths fit
-sized : (c : tie.Else1) → let a = c .before .before .before .before .args in dataSized (length (now (a .body))) (length (now (a .out))) ≡ true
-sized c = sym (c .before .data-sized .ensures) ∙ not-false _ (c .if1 .left)
-
-fits : (c : tie.Else1) → let a = c .before .before .before .before .args in Fitting (length (now (a .body))) (length (now (a .out)))
-fits c = let a = c .before .before .before .before .args in fitting (length (now (a .body))) (length (now (a .out))) (sized c)
-
-data-listed-requires : tie.Need-data-listed-requires
-data-listed-requires c κs = search needs
-
-returns-2 : tie.Need-returns-2
-returns-2 c =
-    let else1 = c .before .before in
-    let a = else1 .before .before .before .before .args in
-    wrote-field (dataLeft (a .h) (now (a .body)) (now (a .out))) (now (a .out)) (sized else1) (sym (c .before .data-listed .ensures) ∙ not-true _ (c .if2 .taken))
 
 fill-of-requires : tie.Need-fill-of-requires
 fill-of-requires c κs = search needs
@@ -53,71 +16,32 @@ cast-data-header c = search needs
 data-header-requires : tie.Need-data-header-requires
 data-header-requires c κs = search needs
 
-put-header-requires : tie.Need-put-header-requires
-put-header-requires c κs =
-    let c4 = c .before .before .before .before in
-    omega (arith, fits (c4 .before) .room)
+data-listed-requires : tie.Need-data-listed-requires
+data-listed-requires c κs = search needs
 
--- after the header the output is as long as before
-room : (c : tie.After-put-header) → let a = c .before .before .before .before .before .before .before .before .before .before .args in Fitting (length (now (a .body))) (length (c .put-header .last .1 .0))
-room c =
-    let c4 = c .before .before .before .before in
-    let c8 = c4 .before .before .before .before in
-    let else1 = c4 .before .before in
-    let f = fits else1 in
-    record { most = f .most; least = f .least; room = omega (arith, f .room, c .put-header .kept .1 .0) }
-
-sub-put-payload : tie.Need-sub-put-payload
-sub-put-payload c = omega (arith, room (c .before .before) .room)
-
-part-put-payload-start : tie.Need-part-put-payload-start
-part-put-payload-start c = omega (arith, room (c .before .before) .room)
-
-part-put-payload-end : tie.Need-part-put-payload-end
-part-put-payload-end c = search needs
-
-put-payload-requires : tie.Need-put-payload-requires
-put-payload-requires c κs =
-    let put = c .before .before .before in
-    let l = put .put-header .last .1 .0 in
-    omega (arith, ap length (lent-tail 24 l), length-drop 24 l, room put, put .before .before .before .fill-of .ensures)
+write-frame-requires : tie.Need-write-frame-requires
+write-frame-requires c κs = search needs
 
 same-length : tie.Need-same-length
 same-length c = search needs
 
-returns-3 : tie.Need-returns-3
-returns-3 c =
-    let payload = c .before .before in
-    let put = payload .before .before .before .before in
-    let at-header = put .before .before in
+returns : tie.Need-returns
+returns c =
+    let wrote = c .before .before in
+    let at-listed = wrote .before .before in
+    let at-header = at-listed .before in
     let at-fill = at-header .before in
-    let else2 = at-fill .before in
-    let else1 = else2 .before .before in
-    let a = else1 .before .before .before .before .args in
-    let body = now (a .body) in
-    let out = now (a .out) in
-    let fill = at-fill .fill-of .result in
-    let w = wrote-done (dataLeft (a .h) body out) out (sized else1) (sym (else2 .before .data-listed .ensures) ∙ not-false _ (else2 .if2 .left)) in
-    let header : put .put-header .last .1 .0 ≡ layBytes (headerFields (dataHeader (a .h) fill)) ++ drop 24 out = put .put-header .ensures ∙ ap (λ (h : Header). layBytes (headerFields h) ++ drop 24 out) (at-header .data-header .ensures) in
-    let frame = framed (layBytes (headerFields (dataHeader (a .h) fill))) body out (put .put-header .last .1 .0) (payload .put-payload .last .1 .1 .0) fill refl header (payload .put-payload .ensures) in
-    let same : (layBytes (headerFields (dataHeader (a .h) fill)) ++ (body ++ replicate fill 0)) ++ drop (24 + length body + fill) out ≡ dataLeft (a .h) body out = ap (λ (f : ℕ). (layBytes (headerFields (dataHeader (a .h) f)) ++ (body ++ replicate f 0)) ++ drop (24 + length body + f) out) (at-fill .fill-of .ensures) in
-    record { answer = w .answer; bytes = frame ∙ same ∙ w .bytes }
+    let a = at-fill .before .before .before .args in
+    wrote-as (now (a .body)) (now (a .out)) (at-header .data-header .ensures ∙ ap (dataHeader (a .h)) (at-fill .fill-of .ensures)) (at-listed .data-listed .ensures) (wrote .write-frame .ensures)
 
 pub write-data-spec : {M : Type 1} → statement M
 write-data-spec =
     tie.close
     (tie.spec
-    data-sized-requires
-    returns
-    data-listed-requires
-    returns-2
     fill-of-requires
     cast-data-header
     data-header-requires
-    put-header-requires
-    sub-put-payload
-    part-put-payload-start
-    part-put-payload-end
-    put-payload-requires
+    data-listed-requires
+    write-frame-requires
     same-length
-    returns-3)
+    returns)

@@ -66,9 +66,9 @@ returns c =
       kind = (ap (λ (w : ℕ). w / 16777216) to ∙ words.kind s small) i;
       destination = (ap (λ (w : ℕ). w % 16777216) to ∙ words.destination s small) i;
       source = (ap (λ (w : ℕ). w % 16777216) from ∙ words.source s small) i;
-      bits = (ap (λ (w : ℕ). w / 256 % 256) flags ∙ words.bits s small) i;
-      fill = (ap (λ (w : ℕ). w % 256) flags ∙ words.fill s small) i;
-      tag = (ap (λ (w : ℕ). w / 65536) tags ∙ words.tag s small) i;
+      bits = (ap (λ (w : ℕ). w / 256 % 256) flags ∙ words.third s small 8) i;
+      fill = (ap (λ (w : ℕ). w % 256) flags ∙ words.fourth s small 8) i;
+      tag = (ap (λ (w : ℕ). w / 65536) tags ∙ words.pair s small 16) i;
       transfer = (ap (λ (w : ℕ). w % 65536) tags ∙ words.transfer s small) i;
       offset = offset i;
     }

@@ -32,8 +32,8 @@ returns c =
     let flags = found s 8 4 (omega arith) (omega arith) (c .before .get-be2 .ensures) in
     let word = found s 12 4 (omega arith) (omega arith) (c .get-be3 .ensures) in
     let gap = ap (λ (w : ℕ). w / 16777216) from ∙ words.gap s small in
-    let pair = ap (λ (w : ℕ). w / 65536) flags ∙ words.pair s small in
-    let fill = ap (λ (w : ℕ). w % 256) flags ∙ words.fill s small in
+    let pair = ap (λ (w : ℕ). w / 65536) flags ∙ words.pair s small 8 in
+    let fill = ap (λ (w : ℕ). w % 256) flags ∙ words.fourth s small 8 in
     λ i. eqb (gap i) 0 && (eqb (pair i) 0 && (ltb (fill i) 4 && eqb (word i) 0))
 
 pub is-blank-spec : {M : Type 1} → statement M
