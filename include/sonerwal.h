@@ -1,8 +1,9 @@
 /*
  * Sonerwal: SAS storage logic for C firmware.
  *
- * The archive has the OPEN and DATA frames, the read transfer, the expander link (XL) and the port. Each is proved
- * against document 01, the owner's scope, which this header names beside each rule as "01, section".
+ * The archive has the OPEN and DATA frames, the read transfer, the expander link (XL) and the port, each proved against
+ * document 01, the owner's scope, which this header names beside each rule as "01, section"; and a write's frames, the
+ * write and the reply, proved against request c) of document 02.
  *
  * LINKING
  *
@@ -29,19 +30,20 @@
  *
  * STATES
  *
- * A transfer, a link and a port are plain structs that the caller keeps. A call is given one by value and gives back the
- * one to go on with, which may be copied, compared and saved like any other number. All zeros is the transfer before
- * START, a link in XL0 that remembers nothing, and a port before setup. No struct that is lent has padding: what
- * would be padding is a member named zero4, zero2 or zero1 by its bytes, and is 0 in every state that a call gives
- * back. Each call looks at the whole state first: one that breaks the rules beside its struct is
- * SONERWAL_REFUSED_RULES, and not a wrong step.
+ * A transfer, a write, a reply, a link and a port are plain structs that the caller keeps. A call is given one by value and
+ * gives back the one to go on with, which may be copied, compared and saved like any other number. All zeros is the
+ * transfer, the write or the reply before START, a link in XL0 that remembers nothing, and a port before setup. No
+ * struct that is lent has padding: what would be padding is a member named zero4, zero2 or zero1 by its bytes, and is 0
+ * in every state that a call gives back. Each call looks at the whole state first: one that breaks the rules beside its
+ * struct is SONERWAL_REFUSED_RULES, and not a wrong step.
  *
  * ANSWERS (01, Refusal numbers)
  *
  * A call answers one byte, enum sonerwal_answer: SONERWAL_OK, a refusal of 1 to 10, or from 16 on what happened.
- * Where several refusals apply the lowest number is given, but for sonerwal_transfer_next(), which has an order
- * of its own. A refusal gives back the state as it was lent, to the last member, and leaves every lent byte,
- * number and record as it was; so `s = r.state` is right after every call but a setup, whose refusal gives no port.
+ * Where several refusals apply the lowest number is given, but for sonerwal_transfer_next(), sonerwal_write_got() and
+ * sonerwal_write_take(), which have an order of their own. A refusal gives back the state as it was lent, to the last
+ * member, and leaves every lent byte, number and record as it was; so `s = r.state` is right after every call but a
+ * setup, whose refusal gives no port.
  */
 #ifndef SONERWAL_H
 #define SONERWAL_H
@@ -53,9 +55,9 @@
 extern "C" {
 #endif
 
-/* One number that grows with each version: 0.2.0 is 200. */
+/* One number that grows with each version: 0.3.0 is 300. */
 #define SONERWAL_VERSION_MAJOR 0
-#define SONERWAL_VERSION_MINOR 2
+#define SONERWAL_VERSION_MINOR 3
 #define SONERWAL_VERSION_PATCH 0
 #define SONERWAL_VERSION (SONERWAL_VERSION_MAJOR * 10000 + SONERWAL_VERSION_MINOR * 100 + SONERWAL_VERSION_PATCH)
 
@@ -78,7 +80,7 @@ enum sonerwal_answer {
 	SONERWAL_REFUSED_DUE = 7,      /* a NAK was seen and answers are still due */
 	SONERWAL_REFUSED_SENT = 8,     /* every byte has been sent in this attempt */
 	SONERWAL_REFUSED_PRESENT = 9,  /* a request with this destination, protocol and tag is present */
-	SONERWAL_REFUSED_FULL = 10,    /* 32 requests are present, or 64 frames are unanswered */
+	SONERWAL_REFUSED_FULL = 10,    /* 32 requests are present, 64 frames are unanswered, or no transfer tag is free */
 
 	/* 01, Read transfer */
 	SONERWAL_SENT = 16,  /* a frame goes */
@@ -87,6 +89,10 @@ enum sonerwal_answer {
 	SONERWAL_DONE = 19,  /* delivered: every requested byte was ACKed */
 	SONERWAL_FAIL = 20,  /* every resend is used */
 	SONERWAL_END = 21,   /* NEXUS or CANCEL ended it */
+
+	/* 02, request c, beside SENT, RETRY, DONE, FAIL and END */
+	SONERWAL_LATE = 22, /* data under an earlier tag of its range: it is dropped */
+	SONERWAL_MORE = 23, /* a range is full, and the next is to be asked for */
 
 	/* 01, Port */
 	SONERWAL_SUBMITTED = 32,           /* the request is in the list */
@@ -309,6 +315,233 @@ static inline uint8_t sonerwal_data_put(const struct sonerwal_data *data, const 
 	                           data->offset, body, data->length, frame, frame_len);
 }
 
+/* ---- XFER_RDY frame (02, request c) ------------------------------------------------------------------------ */
+
+#define SONERWAL_XFER_RDY_SIZE 36u
+
+/*
+ * The fields of an XFER_RDY frame, by which a target asks for a range of a write's bytes.
+ *
+ *   field               range          place in the frame
+ *   hashed_destination  24 bits        bytes 1 to 3
+ *   hashed_source       24 bits        bytes 5 to 7
+ *   retransmit          0 or 1         byte 10, bit 1        1 where the range was asked for before
+ *   retry               0 or 1         byte 10, bit 2        retry data frames
+ *   tag                 any            bytes 16 and 17
+ *   transfer            any            bytes 18 and 19       transfer tag, which the range's DATA frames carry
+ *   offset              any            bytes 24 to 27        of the range's first byte; offset + length isn't tested
+ *   length              1 or more      bytes 28 to 31        the range's bytes: write data length
+ *
+ * Byte 0 is the type, 5. Every other byte and bit is zero. Numbers are big-endian in the frame and plain numbers
+ * here. The struct is the header's own, as that of DATA.
+ */
+struct sonerwal_xfer_rdy {
+	uint32_t hashed_destination;
+	uint32_t hashed_source;
+	uint32_t offset;
+	uint32_t length;
+	uint16_t tag;
+	uint16_t transfer;
+	uint8_t retransmit;
+	uint8_t retry;
+};
+
+/*
+ * Reads an XFER_RDY frame; sonerwal_xfer_rdy_get() is the same call over the struct.
+ *
+ * Answers, the first that holds:
+ *   SONERWAL_REFUSED_LENGTH    frame_len is not 36
+ *   SONERWAL_REFUSED_UNLISTED  byte 0 is not 5; byte 10 has another bit than 1 and 2; byte 4, 8, 9, one of 11 to 15, of 20
+ *                              to 23 or of 32 to 35 is not 0; or the write data length is 0
+ *   SONERWAL_OK                each number holds its field
+ * The frame is only read.
+ */
+uint8_t sonerwal_xfer_rdy_read(const uint8_t *frame, size_t frame_len, uint32_t *hashed_destination,
+                               uint32_t *hashed_source, uint8_t *retransmit, uint8_t *retry, uint16_t *tag,
+                               uint16_t *transfer, uint32_t *offset, uint32_t *length);
+
+/*
+ * Writes an XFER_RDY frame; sonerwal_xfer_rdy_put() is the same call over the struct.
+ *
+ * Answers, the first that holds:
+ *   SONERWAL_REFUSED_LENGTH    frame_len is below 36
+ *   SONERWAL_REFUSED_UNLISTED  hashed_destination or hashed_source is above FFFFFF, retransmit or retry is above 1, or
+ *                              length is 0
+ *   SONERWAL_OK                the first 36 bytes are written; those past them stay
+ */
+uint8_t sonerwal_xfer_rdy_write(uint32_t hashed_destination, uint32_t hashed_source, uint8_t retransmit, uint8_t retry,
+                                uint16_t tag, uint16_t transfer, uint32_t offset, uint32_t length, uint8_t *frame,
+                                size_t frame_len);
+
+/* Reads the frame into *xfer_rdy, with sonerwal_xfer_rdy_read()'s answers; a refusal leaves *xfer_rdy as it was. */
+static inline uint8_t sonerwal_xfer_rdy_get(struct sonerwal_xfer_rdy *xfer_rdy, const uint8_t *frame, size_t frame_len)
+{
+	return sonerwal_xfer_rdy_read(frame, frame_len, &xfer_rdy->hashed_destination, &xfer_rdy->hashed_source,
+	                              &xfer_rdy->retransmit, &xfer_rdy->retry, &xfer_rdy->tag, &xfer_rdy->transfer,
+	                              &xfer_rdy->offset, &xfer_rdy->length);
+}
+
+/* Writes *xfer_rdy into the frame, with sonerwal_xfer_rdy_write()'s answers. */
+static inline uint8_t sonerwal_xfer_rdy_put(const struct sonerwal_xfer_rdy *xfer_rdy, uint8_t *frame, size_t frame_len)
+{
+	return sonerwal_xfer_rdy_write(xfer_rdy->hashed_destination, xfer_rdy->hashed_source, xfer_rdy->retransmit,
+	                               xfer_rdy->retry, xfer_rdy->tag, xfer_rdy->transfer, xfer_rdy->offset,
+	                               xfer_rdy->length, frame, frame_len);
+}
+
+/* ---- DATA frame of a write (02, request c) ----------------------------------------------------------------- */
+
+/*
+ * The fields of a write's DATA frame, which a host sends: those of a read's, whose sizes it has too, and the transfer
+ * tag of the XFER_RDY that asked for the data, in bytes 18 and 19. Any transfer tag is taken, all ones among them.
+ */
+struct sonerwal_data_out {
+	uint32_t hashed_destination;
+	uint32_t hashed_source;
+	uint32_t offset;
+	uint16_t tag;
+	uint16_t transfer;
+	uint16_t length;
+	uint8_t changing;
+};
+
+/*
+ * Reads a write's DATA frame; sonerwal_data_out_get() is the same call over the struct. Its answers are those of
+ * sonerwal_data_read(), but that bytes 18 and 19 may have any value. The data is the *length bytes from frame + 24 on.
+ */
+uint8_t sonerwal_data_out_read(const uint8_t *frame, size_t frame_len, uint32_t *hashed_destination,
+                               uint32_t *hashed_source, uint8_t *changing, uint16_t *tag, uint16_t *transfer,
+                               uint32_t *offset, uint16_t *length);
+
+/*
+ * Writes a write's DATA frame around body; sonerwal_data_out_put() is the same call over the struct. Its answers are
+ * those of sonerwal_data_write(), and its frame has sonerwal_data_size(body_len) bytes too.
+ */
+uint8_t sonerwal_data_out_write(uint32_t hashed_destination, uint32_t hashed_source, uint8_t changing, uint16_t tag,
+                                uint16_t transfer, uint32_t offset, const uint8_t *body, size_t body_len,
+                                uint8_t *frame, size_t frame_len);
+
+/* Reads the frame into *data, with sonerwal_data_out_read()'s answers; a refusal leaves *data as it was. */
+static inline uint8_t sonerwal_data_out_get(struct sonerwal_data_out *data, const uint8_t *frame, size_t frame_len)
+{
+	return sonerwal_data_out_read(frame, frame_len, &data->hashed_destination, &data->hashed_source,
+	                              &data->changing, &data->tag, &data->transfer, &data->offset, &data->length);
+}
+
+/* Writes *data around body, which has data->length bytes, with sonerwal_data_out_write()'s answers. */
+static inline uint8_t sonerwal_data_out_put(const struct sonerwal_data_out *data, const uint8_t *body, uint8_t *frame,
+                                            size_t frame_len)
+{
+	return sonerwal_data_out_write(data->hashed_destination, data->hashed_source, data->changing, data->tag,
+	                               data->transfer, data->offset, body, data->length, frame, frame_len);
+}
+
+/* ---- RESPONSE frame (02, request c) ------------------------------------------------------------------------ */
+
+#define SONERWAL_RESPONSE_HEADER_SIZE 48u /* the data starts here, if there is any */
+#define SONERWAL_RESPONSE_DATA_SIZE 4u    /* response data, if it is present */
+#define SONERWAL_RESPONSE_BODY_MAX 1000u
+#define SONERWAL_RESPONSE_SIZE_MIN 48u
+#define SONERWAL_RESPONSE_SIZE_MAX 1048u
+
+/* Which data a RESPONSE has. */
+enum sonerwal_data_present {
+	SONERWAL_PRESENT_NONE = 0,     /* none */
+	SONERWAL_PRESENT_RESPONSE = 1, /* response data: 4 bytes, and status 0 */
+	SONERWAL_PRESENT_SENSE = 2     /* sense data: 1 to 1,000 bytes */
+};
+
+/*
+ * The fields of a RESPONSE frame, which ends a command.
+ *
+ *   field               range          place in the frame
+ *   hashed_destination  24 bits        bytes 1 to 3
+ *   hashed_source       24 bits        bytes 5 to 7
+ *   retransmit          0 or 1         byte 10, bit 1        1 where the RESPONSE was sent before
+ *   tag                 any            bytes 16 and 17
+ *   present             0 to 2         byte 34               data present, enum sonerwal_data_present
+ *   status              any            byte 35               of SAM; 0 with response data
+ *   length              as its kind's  bytes 40 to 43 with sense data, 44 to 47 with response data; else they are zero
+ *
+ * Byte 0 is the type, 7. Byte 11 is the fill count: 0 to 3 zero bytes behind the data, to a multiple of four. Bytes 18 and
+ * 19 are FF. Every other byte and bit before byte 48 is zero. Numbers are big-endian in the frame and plain numbers
+ * here. The struct is the header's own, as that of DATA.
+ */
+struct sonerwal_response {
+	uint32_t hashed_destination;
+	uint32_t hashed_source;
+	uint16_t tag;
+	uint16_t length;
+	uint8_t retransmit;
+	uint8_t present;
+	uint8_t status;
+};
+
+/*
+ * Reads a RESPONSE frame; sonerwal_response_get() is the same call over the struct.
+ *
+ * Answers, the first that holds:
+ *   SONERWAL_REFUSED_LENGTH    frame_len is below 48, above 1,048, or no multiple of four
+ *   SONERWAL_REFUSED_UNLISTED  byte 0 is not 7; byte 10 has another bit than 1; byte 11 is above 3 or above
+ *                              frame_len - 48; byte 18 or 19 is not FF; byte 4, 8, 9, one of 12 to 15, of 20 to 33 or of
+ *                              36 to 39 is not 0; byte 34 is above 2, or 1 with a status; with n for
+ *                              frame_len - 48 - byte 11, the length that byte 34 names is not n, the other not 0, or n
+ *                              is not its kind's; or one of the frame's last bytes, as many as byte 11 says, is not 0
+ *   SONERWAL_OK                each number holds its field; *length = frame_len - 48 - byte 11
+ * The data isn't copied: it is the *length bytes from frame + 48 on. The frame is only read.
+ */
+uint8_t sonerwal_response_read(const uint8_t *frame, size_t frame_len, uint32_t *hashed_destination,
+                               uint32_t *hashed_source, uint8_t *retransmit, uint16_t *tag, uint8_t *present,
+                               uint8_t *status, uint16_t *length);
+
+/*
+ * Writes a RESPONSE frame around body; sonerwal_response_put() is the same call over the struct. A reply's own frames
+ * are written by sonerwal_reply_respond().
+ *
+ * Answers, the first that holds:
+ *   SONERWAL_REFUSED_LENGTH    body_len is above 1,000; it is not 0 with present 0, not 4 with present 1, or 0 with
+ *                              present 2; or frame_len is below sonerwal_response_size(body_len)
+ *   SONERWAL_REFUSED_UNLISTED  hashed_destination or hashed_source is above FFFFFF, retransmit is above 1, present is
+ *                              above 2, or present is 1 and status is not 0
+ *   SONERWAL_OK                the first sonerwal_response_size(body_len) bytes are written; those past them stay
+ * The body is only read.
+ */
+uint8_t sonerwal_response_write(uint32_t hashed_destination, uint32_t hashed_source, uint8_t retransmit, uint16_t tag,
+                                uint8_t present, uint8_t status, const uint8_t *body, size_t body_len, uint8_t *frame,
+                                size_t frame_len);
+
+/* Bytes of the RESPONSE frame around body_len data bytes, fill included; 0 where there is no such frame. */
+static inline size_t sonerwal_response_size(size_t body_len)
+{
+	if (body_len > SONERWAL_RESPONSE_BODY_MAX) {
+		return 0;
+	}
+	return SONERWAL_RESPONSE_HEADER_SIZE + (body_len + 3u) / 4u * 4u;
+}
+
+/* Where the data of a RESPONSE frame starts; sonerwal_response_get() says how long it is. */
+static inline const uint8_t *sonerwal_response_body(const uint8_t *frame)
+{
+	return frame + SONERWAL_RESPONSE_HEADER_SIZE;
+}
+
+/* Reads the frame into *response, with sonerwal_response_read()'s answers; a refusal leaves *response as it was. */
+static inline uint8_t sonerwal_response_get(struct sonerwal_response *response, const uint8_t *frame, size_t frame_len)
+{
+	return sonerwal_response_read(frame, frame_len, &response->hashed_destination, &response->hashed_source,
+	                              &response->retransmit, &response->tag, &response->present, &response->status,
+	                              &response->length);
+}
+
+/* Writes *response around body, which has response->length bytes, with sonerwal_response_write()'s answers. */
+static inline uint8_t sonerwal_response_put(const struct sonerwal_response *response, const uint8_t *body,
+                                            uint8_t *frame, size_t frame_len)
+{
+	return sonerwal_response_write(response->hashed_destination, response->hashed_source, response->retransmit,
+	                               response->tag, response->present, response->status, body, response->length, frame,
+	                               frame_len);
+}
+
 /* ---- Read transfer (01, Read transfer) --------------------------------------------------------------------- */
 
 /* Frames that may be unanswered at a time. */
@@ -434,6 +667,298 @@ struct sonerwal_transfer_step sonerwal_transfer_next(struct sonerwal_transfer s,
 
 /* Of the next frame's data; 0 where sonerwal_transfer_frame() refuses, which says why. */
 uint32_t sonerwal_transfer_length(struct sonerwal_transfer s);
+
+/* ---- A write (02, request c) ------------------------------------------------------------------------------- */
+
+/*
+ * A host writes, and the target asks for the bytes range by range:
+ *
+ *   the command came            sonerwal_write_start()
+ *   an XFER_RDY is due          sonerwal_write_ask() makes it, and the board sends it
+ *   its ACK came                sonerwal_write_ack()
+ *   its NAK; none; the          sonerwal_write_nak(), _timeout(), _lost(): SONERWAL_RETRY, and the next ask makes it anew,
+ *   connection was lost         under another transfer tag and with the retransmit bit
+ *   a DATA frame came           sonerwal_write_take() puts its data into the store
+ *
+ * What take answers says what is next: SONERWAL_OK, more of the range is due; SONERWAL_MORE, the range is full, and the
+ * next is to be asked for; SONERWAL_DONE, every byte is in the store, each taken once in order of offset. The board
+ * then ends the command by a reply (below). A host that answers an XFER_RDY whose ACK was lost sends the range twice:
+ * what comes under the earlier tag is SONERWAL_LATE, and SONERWAL_REFUSED_UNLISTED once data under the later one was
+ * taken. Either way the board drops it, and nothing else is to be done. A frame that overtook the ACK of its XFER_RDY is
+ * SONERWAL_REFUSED_UNFIT, and the board offers it again once the ACK is reported.
+ *
+ * A host that sends nothing is the board's to time: sonerwal_write_cancel(), and a reply with a status that says so. It
+ * may also cancel before the end, best after SONERWAL_MORE, where nothing is on its way.
+ */
+
+/* Transfer tags are 0 to 63; a set of them is a number, with tag t at bit t. */
+#define SONERWAL_TRANSFER_TAGS 64u
+
+enum sonerwal_write_phase {
+	SONERWAL_WRITE_NEW = 0,    /* before START */
+	SONERWAL_WRITE_ASK = 1,    /* an XFER_RDY is due: the first of a range, or a retry */
+	SONERWAL_WRITE_WAIT = 2,   /* its ACK, NAK or loss is due */
+	SONERWAL_WRITE_TAKE = 3,   /* it was ACKed, and data is due */
+	SONERWAL_WRITE_DONE = 4,   /* every byte was taken */
+	SONERWAL_WRITE_FAILED = 5, /* a NAK, TIMEOUT or LOST came with every retry used */
+	SONERWAL_WRITE_ENDED = 6   /* NEXUS or CANCEL came */
+};
+
+/*
+ * A write.
+ *
+ *   tags     its own transfer tags in use: each from its XFER_RDY on, until data under a later one is taken, until its
+ *            range is full, or until the write is finished
+ *   offset   B: where the request begins
+ *   count    N: its bytes, 1 or more; offset + count is at most 4,294,967,295
+ *   burst    X: the most that one XFER_RDY asks for, a multiple of 4 from 4 on; it may be above count
+ *   resends  R: how many retries are allowed, 0 to 63, over the whole write
+ *   next     offset of the next byte: all before it were taken
+ *   used     retries used, 0 to resends
+ *   tag      transfer tag of the last XFER_RDY, 0 before the first
+ *   phase    enum sonerwal_write_phase
+ *
+ * The ranges have burst bytes each from offset on, the last what is left. Its rules: it is all zeros, or what some START
+ * and calls after it leave; the test of that is exact.
+ */
+struct sonerwal_write {
+	uint64_t tags;
+	uint32_t offset;
+	uint32_t count;
+	uint32_t burst;
+	uint32_t resends;
+	uint32_t next;
+	uint32_t used;
+	uint32_t zero4;
+	uint16_t tag;
+	uint8_t phase;
+	uint8_t zero1;
+};
+SONERWAL_SIZE(write, 40);
+
+/* What a call gives: the write to go on with, and the answer. What lies behind the answer isn't promised. */
+struct sonerwal_write_step {
+	struct sonerwal_write state;
+	uint8_t answer;
+};
+
+/* Keeps the state that a call gave, and says its answer:
+ *     answer = sonerwal_write_keep(&s, sonerwal_write_ack(s)); */
+static inline uint8_t sonerwal_write_keep(struct sonerwal_write *s, struct sonerwal_write_step step)
+{
+	*s = step.state;
+	return step.answer;
+}
+
+/* The tags that the writes of a port have in use: `others` of sonerwal_write_xfer() and sonerwal_write_ask(). The write that
+ * asks may be among them, since its own tags are not free for it anyway. */
+static inline uint64_t sonerwal_write_others(const struct sonerwal_write *writes, size_t count)
+{
+	uint64_t tags = 0;
+	for (size_t i = 0; i < count; i++) {
+		tags |= writes[i].tags;
+	}
+	return tags;
+}
+
+/*
+ * START: count bytes from offset on, at most burst for one XFER_RDY, with so many retries.
+ *
+ *   SONERWAL_REFUSED_RULES  a number is out of its range, or s breaks its rules
+ *   SONERWAL_REFUSED_UNFIT  s is a write that isn't finished
+ *   SONERWAL_OK             the first range is to be asked for
+ */
+struct sonerwal_write_step sonerwal_write_start(struct sonerwal_write s, uint32_t offset, uint32_t count, uint32_t burst,
+                                                uint32_t resends);
+
+/*
+ * XFER: an XFER_RDY goes, for the present range. For firmware that writes its frames by itself, from the state that comes
+ * back: tag is the transfer tag, next the requested offset, the lesser of burst and offset + count - next the length, and
+ * the retransmit bit is one exactly if tags was not 0 before. sonerwal_write_ask() does both.
+ *
+ * others are the transfer tags that the port's other writes have in use, so that no two writes share one. The tag taken is
+ * the lowest that is not among them, not one of s.tags and not the tag of the XFER_RDY before.
+ *
+ *   SONERWAL_REFUSED_RULES  s breaks its rules
+ *   SONERWAL_REFUSED_UNFIT  no XFER_RDY is due
+ *   SONERWAL_REFUSED_FULL   no transfer tag is free: the caller comes again once another write's range is full
+ *   SONERWAL_SENT           its ACK, NAK or loss is due
+ */
+struct sonerwal_write_step sonerwal_write_xfer(struct sonerwal_write s, uint64_t others);
+
+/*
+ * What became of the XFER_RDY: ACK; NAK; the ACK/NAK timeout; and a connection lost.
+ *
+ *   SONERWAL_REFUSED_RULES  s breaks its rules
+ *   SONERWAL_REFUSED_UNFIT  none is due an answer
+ *   SONERWAL_OK             ACK: data is due
+ *   SONERWAL_RETRY          NAK, timeout, lost: the same range is to be asked for again
+ *   SONERWAL_FAIL           NAK, timeout, lost: every retry is used
+ */
+struct sonerwal_write_step sonerwal_write_ack(struct sonerwal_write s);
+struct sonerwal_write_step sonerwal_write_nak(struct sonerwal_write s);
+struct sonerwal_write_step sonerwal_write_timeout(struct sonerwal_write s);
+struct sonerwal_write_step sonerwal_write_lost(struct sonerwal_write s);
+
+/*
+ * DATA: so many bytes came, from offset on, under a transfer tag. For firmware that reads its frames by itself;
+ * sonerwal_write_take() does both. Answers, the first that holds:
+ *
+ *   SONERWAL_REFUSED_UNLISTED  length is 0 or above 1,024
+ *   SONERWAL_REFUSED_RULES     s breaks its rules
+ *   SONERWAL_REFUSED_UNFIT     before START, finished, or the ACK of the XFER_RDY with this tag isn't reported yet
+ *   SONERWAL_REFUSED_UNLISTED  transfer isn't one of s.tags; the data begins before s.next, ends past the range, or ends
+ *                              within it and has no multiple of four bytes; or it is under the awaited tag, and doesn't
+ *                              begin at s.next
+ *   SONERWAL_LATE              it is under another tag of s.tags: to be dropped, and nothing moved
+ *   SONERWAL_OK                taken, and more of the range is due
+ *   SONERWAL_MORE              taken, the range is full, and the next is to be asked for
+ *   SONERWAL_DONE              taken, and it was the last
+ */
+struct sonerwal_write_step sonerwal_write_got(struct sonerwal_write s, uint16_t transfer, uint32_t offset, uint32_t length);
+
+/*
+ * NEXUS (I_T nexus loss) and CANCEL.
+ *
+ *   SONERWAL_REFUSED_RULES  s breaks its rules
+ *   SONERWAL_REFUSED_UNFIT  before START, or finished
+ *   SONERWAL_END            ended at once; its tags are free
+ */
+struct sonerwal_write_step sonerwal_write_nexus(struct sonerwal_write s);
+struct sonerwal_write_step sonerwal_write_cancel(struct sonerwal_write s);
+
+/*
+ * Writes the XFER_RDY that is due, SONERWAL_XFER_RDY_SIZE bytes, and takes XFER's step. hashed_destination is the host's,
+ * hashed_source the target's, and tag the command's; the write doesn't keep them, and a retry is given the same. Answers,
+ * the first that holds:
+ *
+ *   SONERWAL_REFUSED_LENGTH                frame_len is below 36
+ *   SONERWAL_REFUSED_UNLISTED              hashed_destination or hashed_source is above FFFFFF
+ *   SONERWAL_REFUSED_RULES, _UNFIT, _FULL  as sonerwal_write_xfer()
+ *   SONERWAL_SENT                          it stands at the front of frame; the bytes past it stay
+ */
+struct sonerwal_write_step sonerwal_write_ask(struct sonerwal_write s, uint64_t others, uint32_t hashed_destination,
+                                              uint32_t hashed_source, uint16_t tag, uint8_t *frame, size_t frame_len);
+
+/*
+ * Reads a DATA frame that came and takes DATA's step: its data goes into the store, where the request's first byte is
+ * store[0]. hashed_destination, hashed_source and tag are those that ask was given: the frame has the addresses the
+ * other way round, and the same tag. store has s.count bytes or more, the same memory at each take of a write; frame is
+ * no part of it. Answers, the first that holds:
+ *
+ *   SONERWAL_REFUSED_LENGTH         frame_len is below 28, above 1,048, or no multiple of four
+ *   SONERWAL_REFUSED_UNLISTED       it is no DATA frame of a write, or hashed_destination or hashed_source is above
+ *                                   FFFFFF
+ *   SONERWAL_REFUSED_RULES, _UNFIT  as sonerwal_write_got()
+ *   SONERWAL_REFUSED_UNLISTED       its addresses or its tag are another's; then as sonerwal_write_got()
+ *   SONERWAL_REFUSED_LENGTH         store_len is below s.count
+ *   SONERWAL_LATE                   nothing is stored, and nothing moved
+ *   SONERWAL_OK, _MORE, _DONE       its data is in the store; every other byte of the store is as it was
+ */
+struct sonerwal_write_step sonerwal_write_take(struct sonerwal_write s, uint32_t hashed_destination, uint32_t hashed_source,
+                                               uint16_t tag, const uint8_t *frame, size_t frame_len, uint8_t *store,
+                                               size_t store_len);
+
+/* ---- A reply (02, request c) ------------------------------------------------------------------------------- */
+
+/*
+ * RESPONSE ends a command, a read as well as a write, and is sent again until its ACK is reported or its resends are used:
+ *
+ *   the command is at its end   sonerwal_reply_start()
+ *   a RESPONSE is due           sonerwal_reply_respond() makes it, and the board sends it
+ *   its ACK came                sonerwal_reply_ack(): SONERWAL_DONE
+ *   its NAK; none; the          sonerwal_reply_nak(), _timeout(), _lost(): SONERWAL_RETRY, and the next respond makes it
+ *   connection was lost         anew, with the retransmit bit
+ */
+
+enum sonerwal_reply_phase {
+	SONERWAL_REPLY_NEW = 0,    /* before START */
+	SONERWAL_REPLY_ASK = 1,    /* a RESPONSE is due */
+	SONERWAL_REPLY_WAIT = 2,   /* its ACK, NAK or loss is due */
+	SONERWAL_REPLY_DONE = 3,   /* its ACK was reported */
+	SONERWAL_REPLY_FAILED = 4, /* a NAK, TIMEOUT or LOST came with every resend used */
+	SONERWAL_REPLY_ENDED = 5   /* NEXUS or CANCEL came */
+};
+
+/*
+ * A reply.
+ *
+ *   resends  R: how many are allowed, 0 to 255
+ *   used     resends used, 0 to resends
+ *   phase    enum sonerwal_reply_phase
+ *
+ * Its rules: it is all zeros, or what some START and calls after it leave; the test of that is exact.
+ */
+struct sonerwal_reply {
+	uint32_t resends;
+	uint32_t used;
+	uint16_t zero2;
+	uint8_t zero1;
+	uint8_t phase;
+};
+SONERWAL_SIZE(reply, 12);
+
+/* What a call gives: the reply to go on with, and the answer. What lies behind the answer isn't promised. */
+struct sonerwal_reply_step {
+	struct sonerwal_reply state;
+	uint8_t answer;
+};
+
+/* Keeps the state that a call gave, and says its answer. */
+static inline uint8_t sonerwal_reply_keep(struct sonerwal_reply *s, struct sonerwal_reply_step step)
+{
+	*s = step.state;
+	return step.answer;
+}
+
+/*
+ * START, with so many resends.
+ *
+ *   SONERWAL_REFUSED_RULES  resends is above 255, or s breaks its rules
+ *   SONERWAL_REFUSED_UNFIT  s is a reply that isn't finished
+ *   SONERWAL_OK             a RESPONSE is due
+ */
+struct sonerwal_reply_step sonerwal_reply_start(struct sonerwal_reply s, uint32_t resends);
+
+/*
+ * What became of the RESPONSE: ACK; NAK; the ACK/NAK timeout; and a connection lost.
+ *
+ *   SONERWAL_REFUSED_RULES  s breaks its rules
+ *   SONERWAL_REFUSED_UNFIT  none is due an answer
+ *   SONERWAL_DONE           ACK: delivered
+ *   SONERWAL_RETRY          NAK, timeout, lost: it is to be sent again
+ *   SONERWAL_FAIL           NAK, timeout, lost: every resend is used
+ */
+struct sonerwal_reply_step sonerwal_reply_ack(struct sonerwal_reply s);
+struct sonerwal_reply_step sonerwal_reply_nak(struct sonerwal_reply s);
+struct sonerwal_reply_step sonerwal_reply_timeout(struct sonerwal_reply s);
+struct sonerwal_reply_step sonerwal_reply_lost(struct sonerwal_reply s);
+
+/*
+ * NEXUS (I_T nexus loss) and CANCEL.
+ *
+ *   SONERWAL_REFUSED_RULES  s breaks its rules
+ *   SONERWAL_REFUSED_UNFIT  before START, or finished
+ *   SONERWAL_END            ended at once
+ */
+struct sonerwal_reply_step sonerwal_reply_nexus(struct sonerwal_reply s);
+struct sonerwal_reply_step sonerwal_reply_cancel(struct sonerwal_reply s);
+
+/*
+ * Writes the RESPONSE that is due, sonerwal_response_size(body_len) bytes. hashed_destination is the host's, hashed_source
+ * the target's, and tag the command's; present, status and body are as in sonerwal_response_write(). The reply keeps none
+ * of them, and a resend is given the same. Answers, the first that holds:
+ *
+ *   SONERWAL_REFUSED_LENGTH    as sonerwal_response_write()
+ *   SONERWAL_REFUSED_UNLISTED  as sonerwal_response_write()
+ *   SONERWAL_REFUSED_RULES     s breaks its rules
+ *   SONERWAL_REFUSED_UNFIT     no RESPONSE is due
+ *   SONERWAL_SENT              it stands at the front of frame, with the retransmit bit if a resend was used; the
+ *                              bytes past it stay
+ */
+struct sonerwal_reply_step sonerwal_reply_respond(struct sonerwal_reply s, uint32_t hashed_destination,
+                                                  uint32_t hashed_source, uint16_t tag, uint8_t present, uint8_t status,
+                                                  const uint8_t *body, size_t body_len, uint8_t *frame, size_t frame_len);
 
 /* ---- Expander link (01, XL: one event, one step) ----------------------------------------------------------- */
 
@@ -843,13 +1368,13 @@ struct sonerwal_port_step sonerwal_port_disable(struct sonerwal_request *list, s
  *   OPEN             writes r.frame by sonerwal_open_put() and transmits the 28 bytes on r.phy; then opened or
  *                    open_failed
  *   SEND             makes the frame of the request that r.slot names, now and not before, and sends it on r.phy:
- *                    sonerwal_transfer_next() into sonerwal_data_size(sonerwal_transfer_length(s)) bytes; then
- *                    frame_status
+ *                    sonerwal_transfer_next() into sonerwal_data_size(sonerwal_transfer_length(s)) bytes, a write's
+ *                    sonerwal_write_ask() or a reply's sonerwal_reply_respond(); then frame_status
  *   CLOSE, STOP_ARB  tells phy r.phy; then closed; or open_failed or opened
  *   STATUS           the request is gone, and nothing is called yet: ACK, NAK, the ACK/NAK timeout and a connection
  *                    lost after it come from the link layer, and are _ack, _nak, _timeout and _lost of the
- *                    transfer that has an answer due
- *   CONNECTION_LOST  _lost of the transfer; refused as unfit where nothing is unanswered, which does no harm
+ *                    transfer, write or reply that has an answer due
+ *   CONNECTION_LOST  _lost of each; refused as unfit where nothing is unanswered, which does no harm
  *   WAITING          the same if a frame was out; it is made anew at the next SEND
  *   NEXUS_LOSS       _nexus
  *   CANCEL_ACKNOWLEDGED, ENDED
@@ -881,6 +1406,8 @@ static inline const char *sonerwal_answer_name(uint8_t answer)
 	case SONERWAL_DONE: return "done";
 	case SONERWAL_FAIL: return "fail";
 	case SONERWAL_END: return "end";
+	case SONERWAL_LATE: return "late";
+	case SONERWAL_MORE: return "more";
 	case SONERWAL_SUBMITTED: return "submitted";
 	case SONERWAL_NOTHING: return "nothing";
 	case SONERWAL_SEND: return "send";

@@ -13,12 +13,20 @@ use Rattle.open_frame.specs.declared.OpenFrame.{OpenFrame}
 use Rattle.ssp_frame.specs.Data.{dataOf, dataLeft, readCauses as dataReads, writeCauses as dataWrites}
 use Rattle.ssp_frame.specs.declared.data.DataHead.{DataHead}
 use Rattle.ssp_frame.specs.declared.data.DataFrame.{DataFrame}
+use Rattle.ssp_frame.specs.Xfer.{xferOf, xferLeft, readCauses as xferReads, writeCauses as xferWrites}
+use Rattle.ssp_frame.specs.declared.xfer_rdy.XferHead.{XferHead}
+use Rattle.ssp_frame.specs.Out.{outOf, outLeft, readCauses as outReads, writeCauses as outWrites}
+use Rattle.ssp_frame.specs.declared.data_out.OutHead.{OutHead}
+use Rattle.ssp_frame.specs.declared.data_out.OutFrame.{OutFrame}
+use Rattle.ssp_frame.specs.Response.{responseOf, responseLeft, readCauses as responseReads, writeCauses as responseWrites}
+use Rattle.ssp_frame.specs.declared.response.ResponseHead.{ResponseHead}
+use Rattle.ssp_frame.specs.declared.response.ResponseFrame.{ResponseFrame}
 
 -- ---- numbers in the order of include/sonerwal.h
 
--- 0.2.0
+-- 0.3.0
 abbrev pub version : ℕ
-version = 200
+version = 300
 
 -- nine as an OPEN frame
 abbrev pub open9 : ℕ → ℕ → ℕ → ℕ → ℕ → ℕ → ℕ → ℕ → ℕ → OpenFrame
@@ -34,6 +42,33 @@ data5 destination source changing tag offset = record { destination = destinatio
 
 abbrev pub data6 : ℕ → ℕ → ℕ → ℕ → ℕ → ℕ → DataFrame
 data6 destination source changing tag offset length = record { head = data5 destination source changing tag offset; length = length }
+
+-- eight as an XFER_RDY
+abbrev pub xfer8 : ℕ → ℕ → ℕ → ℕ → ℕ → ℕ → ℕ → ℕ → XferHead
+xfer8 destination source retransmit retry tag transfer offset length = record {
+  destination = destination;
+  source = source;
+  retransmit = retransmit;
+  retry = retry;
+  tag = tag;
+  transfer = transfer;
+  offset = offset;
+  length = length;
+}
+
+-- six as the head of data out, and with its length seven
+abbrev pub out6 : ℕ → ℕ → ℕ → ℕ → ℕ → ℕ → OutHead
+out6 destination source changing tag transfer offset = record { destination = destination; source = source; changing = changing; tag = tag; transfer = transfer; offset = offset }
+
+abbrev pub out7 : ℕ → ℕ → ℕ → ℕ → ℕ → ℕ → ℕ → OutFrame
+out7 destination source changing tag transfer offset length = record { head = out6 destination source changing tag transfer offset; length = length }
+
+-- six as the head of a RESPONSE, and with its data's length seven
+abbrev pub response6 : ℕ → ℕ → ℕ → ℕ → ℕ → ℕ → ResponseHead
+response6 destination source retransmit tag present status = record { destination = destination; source = source; retransmit = retransmit; tag = tag; present = present; status = status }
+
+abbrev pub response7 : ℕ → ℕ → ℕ → ℕ → ℕ → ℕ → ℕ → ResponseFrame
+response7 destination source retransmit tag present status length = record { head = response6 destination source retransmit tag present status; length = length }
 
 -- ---- what a call was lent and left
 
@@ -57,6 +92,15 @@ openLent initiator protocol features rate tag destination source pbc awt at = op
 abbrev pub dataLent : Lent ℕ → Lent ℕ → Lent ℕ → Lent ℕ → Lent ℕ → Lent ℕ → Fields DataFrame
 dataLent destination source changing tag offset length at = data6 (at destination) (at source) (at changing) (at tag) (at offset) (at length)
 
+abbrev pub xferLent : Lent ℕ → Lent ℕ → Lent ℕ → Lent ℕ → Lent ℕ → Lent ℕ → Lent ℕ → Lent ℕ → Fields XferHead
+xferLent destination source retransmit retry tag transfer offset length at = xfer8 (at destination) (at source) (at retransmit) (at retry) (at tag) (at transfer) (at offset) (at length)
+
+abbrev pub outLent : Lent ℕ → Lent ℕ → Lent ℕ → Lent ℕ → Lent ℕ → Lent ℕ → Lent ℕ → Fields OutFrame
+outLent destination source changing tag transfer offset length at = out7 (at destination) (at source) (at changing) (at tag) (at transfer) (at offset) (at length)
+
+abbrev pub responseLent : Lent ℕ → Lent ℕ → Lent ℕ → Lent ℕ → Lent ℕ → Lent ℕ → Lent ℕ → Fields ResponseFrame
+responseLent destination source retransmit tag present status length at = response7 (at destination) (at source) (at retransmit) (at tag) (at present) (at status) (at length)
+
 -- a reader's call with an answer of A: the bytes that it reads, and the fields that it is lent and leaves
 pub record Read (A F : Type 0) : Type 0 where
   pub frame : List ℕ
@@ -77,13 +121,22 @@ pub record Write (A G : Type 0) : Type 0 where
 abbrev pub writing : {G : Type 0} → G → Lent (List ℕ) → ℕ → Write ℕ G
 writing given frame answer = record { given = given; lent = before frame; answer = answer; left = after frame }
 
--- what DATA's writer is given: five numbers, and the data
-pub record DataGiven : Type 0 where
-  pub head : DataHead
+-- what a writer is given whose frame has data: numbers as a head of H, and the data
+pub record Given (H : Type 0) : Type 0 where
+  pub head : H
   pub body : List ℕ
+
+abbrev pub DataGiven : Type 0
+DataGiven = Given DataHead
 
 abbrev pub dataGiven : ℕ → ℕ → ℕ → ℕ → ℕ → Lent (List ℕ) → DataGiven
 dataGiven destination source changing tag offset body = record { head = data5 destination source changing tag offset; body = before body }
+
+abbrev pub outGiven : ℕ → ℕ → ℕ → ℕ → ℕ → ℕ → Lent (List ℕ) → Given OutHead
+outGiven destination source changing tag transfer offset body = record { head = out6 destination source changing tag transfer offset; body = before body }
+
+abbrev pub responseGiven : ℕ → ℕ → ℕ → ℕ → ℕ → ℕ → Lent (List ℕ) → Given ResponseHead
+responseGiven destination source retransmit tag present status body = record { head = response6 destination source retransmit tag present status; body = before body }
 
 -- ---- what a call promises
 
@@ -104,6 +157,24 @@ DataReads c = Called (dataReads (c .frame)) (dataOf (c .frame)) (c .lent) (c .an
 
 abbrev pub DataWrites : Write ℕ DataGiven → Type 0
 DataWrites c = Called (dataWrites (c .given .head) (c .given .body) (c .lent)) (dataLeft (c .given .head) (c .given .body) (c .lent)) (c .lent) (c .answer) (c .left)
+
+abbrev pub XferReads : Read ℕ XferHead → Type 0
+XferReads c = Called (xferReads (c .frame)) (xferOf (c .frame)) (c .lent) (c .answer) (c .left)
+
+abbrev pub XferWrites : Write ℕ XferHead → Type 0
+XferWrites c = Called (xferWrites (c .given) (c .lent)) (xferLeft (c .given) (c .lent)) (c .lent) (c .answer) (c .left)
+
+abbrev pub OutReads : Read ℕ OutFrame → Type 0
+OutReads c = Called (outReads (c .frame)) (outOf (c .frame)) (c .lent) (c .answer) (c .left)
+
+abbrev pub OutWrites : Write ℕ (Given OutHead) → Type 0
+OutWrites c = Called (outWrites (c .given .head) (c .given .body) (c .lent)) (outLeft (c .given .head) (c .given .body) (c .lent)) (c .lent) (c .answer) (c .left)
+
+abbrev pub ResponseReads : Read ℕ ResponseFrame → Type 0
+ResponseReads c = Called (responseReads (c .frame)) (responseOf (c .frame)) (c .lent) (c .answer) (c .left)
+
+abbrev pub ResponseWrites : Write ℕ (Given ResponseHead) → Type 0
+ResponseWrites c = Called (responseWrites (c .given .head) (c .given .body) (c .lent)) (responseLeft (c .given .head) (c .given .body) (c .lent)) (c .lent) (c .answer) (c .left)
 
 -- ---- priority
 

@@ -6,12 +6,14 @@ ghost use Rattle.sonerwal.specs.Face as face;
 pub mod frames;
 pub mod link;
 pub mod ports;
+pub mod replies;
 pub mod transfer;
+pub mod writes;
 
 // Of the archive; the header has its own.
 #[no_mangle]
 pub extern "C" fn sonerwal_version() -> u32
     ensures { λ r. ⌜ r ≡ face.version ⌝ }
 {
-    200
+    300
 }
