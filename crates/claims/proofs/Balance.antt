@@ -46,6 +46,7 @@ abbrev pub next : Run → Stepped
 next r = stepOf limit (r .last) (now r)
 
 -- 01 READ.3 01 READ.7 01 READ.12 01 READ.15
+-- 02 c.5: Demands 2 and 3 for reads stay.
 -- 01 PROMISE.4: Sending at the first call and only nodding at ACKs falls to demand 3: the balance point must reach the last ACKed frame.
 pub record Balance : Type 0 where
   -- "For one read transfer over any calls from its start, refused ones among them: the balance point lies within the request;

@@ -18,6 +18,18 @@ use Rattle.ssp_frame.proofs.data.read_data.Kinds as read-data-of
 use Rattle.ssp_frame.proofs.data.read_data.Reads as read-data
 use Rattle.ssp_frame.proofs.data.write_data.Kinds as write-data-of
 use Rattle.ssp_frame.proofs.data.write_data.Reads as write-data
+use Rattle.ssp_frame.proofs.xfer_rdy.read_xfer_rdy.Kinds as read-xfer-rdy-of
+use Rattle.ssp_frame.proofs.xfer_rdy.read_xfer_rdy.Reads as read-xfer-rdy
+use Rattle.ssp_frame.proofs.xfer_rdy.write_xfer_rdy.Kinds as write-xfer-rdy-of
+use Rattle.ssp_frame.proofs.xfer_rdy.write_xfer_rdy.Reads as write-xfer-rdy
+use Rattle.ssp_frame.proofs.data_out.read_data_out.Kinds as read-data-out-of
+use Rattle.ssp_frame.proofs.data_out.read_data_out.Reads as read-data-out
+use Rattle.ssp_frame.proofs.data_out.write_data_out.Kinds as write-data-out-of
+use Rattle.ssp_frame.proofs.data_out.write_data_out.Reads as write-data-out
+use Rattle.ssp_frame.proofs.response.read_response.Kinds as read-response-of
+use Rattle.ssp_frame.proofs.response.read_response.Reads as read-response
+use Rattle.ssp_frame.proofs.response.write_response.Kinds as write-response-of
+use Rattle.ssp_frame.proofs.response.write_response.Reads as write-response
 use Rattle.sonerwal.proofs.frames.sonerwal_open_read.Kinds as sonerwal-open-read-of
 use Rattle.sonerwal.proofs.frames.sonerwal_open_read.Reads as sonerwal-open-read
 use Rattle.sonerwal.proofs.frames.sonerwal_open_write.Kinds as sonerwal-open-write-of
@@ -26,6 +38,18 @@ use Rattle.sonerwal.proofs.frames.sonerwal_data_read.Kinds as sonerwal-data-rea
 use Rattle.sonerwal.proofs.frames.sonerwal_data_read.Reads as sonerwal-data-read
 use Rattle.sonerwal.proofs.frames.sonerwal_data_write.Kinds as sonerwal-data-write-of
 use Rattle.sonerwal.proofs.frames.sonerwal_data_write.Reads as sonerwal-data-write
+use Rattle.sonerwal.proofs.frames.sonerwal_xfer_rdy_read.Kinds as sonerwal-xfer-rdy-read-of
+use Rattle.sonerwal.proofs.frames.sonerwal_xfer_rdy_read.Reads as sonerwal-xfer-rdy-read
+use Rattle.sonerwal.proofs.frames.sonerwal_xfer_rdy_write.Kinds as sonerwal-xfer-rdy-write-of
+use Rattle.sonerwal.proofs.frames.sonerwal_xfer_rdy_write.Reads as sonerwal-xfer-rdy-write
+use Rattle.sonerwal.proofs.frames.sonerwal_data_out_read.Kinds as sonerwal-data-out-read-of
+use Rattle.sonerwal.proofs.frames.sonerwal_data_out_read.Reads as sonerwal-data-out-read
+use Rattle.sonerwal.proofs.frames.sonerwal_data_out_write.Kinds as sonerwal-data-out-write-of
+use Rattle.sonerwal.proofs.frames.sonerwal_data_out_write.Reads as sonerwal-data-out-write
+use Rattle.sonerwal.proofs.frames.sonerwal_response_read.Kinds as sonerwal-response-read-of
+use Rattle.sonerwal.proofs.frames.sonerwal_response_read.Reads as sonerwal-response-read
+use Rattle.sonerwal.proofs.frames.sonerwal_response_write.Kinds as sonerwal-response-write-of
+use Rattle.sonerwal.proofs.frames.sonerwal_response_write.Reads as sonerwal-response-write
 use Rattle.sonerwal.proofs.frames.sonerwal_wait_value.Kinds as sonerwal-wait-value-of
 use Rattle.sonerwal.proofs.frames.sonerwal_wait_value.Reads as sonerwal-wait-value
 use Rattle.sonerwal.proofs.frames.sonerwal_open_higher.Kinds as sonerwal-open-higher-of
@@ -103,6 +127,24 @@ ReadData = Outcome 1 read-data-of.ps read-data-of.r read-data.Post
 abbrev pub WriteData : Type 0
 WriteData = Outcome 2 write-data-of.ps write-data-of.r write-data.Post
 
+abbrev pub ReadXfer : Type 0
+ReadXfer = Outcome 1 read-xfer-rdy-of.ps read-xfer-rdy-of.r read-xfer-rdy.Post
+
+abbrev pub WriteXfer : Type 0
+WriteXfer = Outcome 1 write-xfer-rdy-of.ps write-xfer-rdy-of.r write-xfer-rdy.Post
+
+abbrev pub ReadOut : Type 0
+ReadOut = Outcome 1 read-data-out-of.ps read-data-out-of.r read-data-out.Post
+
+abbrev pub WriteOut : Type 0
+WriteOut = Outcome 2 write-data-out-of.ps write-data-out-of.r write-data-out.Post
+
+abbrev pub ReadResponse : Type 0
+ReadResponse = Outcome 1 read-response-of.ps read-response-of.r read-response.Post
+
+abbrev pub WriteResponse : Type 0
+WriteResponse = Outcome 2 write-response-of.ps write-response-of.r write-response.Post
+
 abbrev pub FaceOpenRead : Type 0
 FaceOpenRead = Outcome 10 sonerwal-open-read-of.ps sonerwal-open-read-of.r sonerwal-open-read.Post
 
@@ -114,6 +156,24 @@ FaceDataRead = Outcome 7 sonerwal-data-read-of.ps sonerwal-data-read-of.r sonerw
 
 abbrev pub FaceDataWrite : Type 0
 FaceDataWrite = Outcome 2 sonerwal-data-write-of.ps sonerwal-data-write-of.r sonerwal-data-write.Post
+
+abbrev pub FaceXferRead : Type 0
+FaceXferRead = Outcome 9 sonerwal-xfer-rdy-read-of.ps sonerwal-xfer-rdy-read-of.r sonerwal-xfer-rdy-read.Post
+
+abbrev pub FaceXferWrite : Type 0
+FaceXferWrite = Outcome 1 sonerwal-xfer-rdy-write-of.ps sonerwal-xfer-rdy-write-of.r sonerwal-xfer-rdy-write.Post
+
+abbrev pub FaceOutRead : Type 0
+FaceOutRead = Outcome 8 sonerwal-data-out-read-of.ps sonerwal-data-out-read-of.r sonerwal-data-out-read.Post
+
+abbrev pub FaceOutWrite : Type 0
+FaceOutWrite = Outcome 2 sonerwal-data-out-write-of.ps sonerwal-data-out-write-of.r sonerwal-data-out-write.Post
+
+abbrev pub FaceResponseRead : Type 0
+FaceResponseRead = Outcome 8 sonerwal-response-read-of.ps sonerwal-response-read-of.r sonerwal-response-read.Post
+
+abbrev pub FaceResponseWrite : Type 0
+FaceResponseWrite = Outcome 2 sonerwal-response-write-of.ps sonerwal-response-write-of.r sonerwal-response-write.Post
 
 abbrev pub FaceWaitValue : Type 0
 FaceWaitValue = Outcome 0 sonerwal-wait-value-of.ps sonerwal-wait-value-of.r sonerwal-wait-value.Post

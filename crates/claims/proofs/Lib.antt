@@ -17,6 +17,13 @@ pub mod Ports
 pub mod Printed
 pub mod Priority
 pub mod Refusals
+pub mod Replies
+mod ReplyCalls
+pub mod ReplyFace
+pub mod ReplyNumbers
+pub mod ReplyRefusals
+pub mod ReplyRuns
+pub mod ReplySteps
 pub mod Rows
 pub mod StepRefusals
 pub mod Steps
@@ -31,3 +38,11 @@ pub mod Unique
 pub mod Waits
 mod Walked
 pub mod Words
+mod WriteCalls
+mod WriteFaceCalls
+pub mod WriteFace
+pub mod WriteNumbers
+pub mod WriteRefusals
+pub mod WriteRuns
+pub mod WriteSteps
+pub mod Writes

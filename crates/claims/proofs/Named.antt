@@ -10,15 +10,24 @@ use Rattle.open_frame.specs.declared.OpenRead.{OpenRead}
 use Rattle.ssp_frame.specs.declared.data.DataHead.{DataHead}
 use Rattle.ssp_frame.specs.declared.data.DataFrame.{DataFrame}
 use Rattle.ssp_frame.specs.declared.data.DataRead.{DataRead}
+use Rattle.ssp_frame.specs.declared.xfer_rdy.XferHead.{XferHead}
+use Rattle.ssp_frame.specs.declared.xfer_rdy.XferRead.{XferRead}
+use Rattle.ssp_frame.specs.declared.data_out.OutHead.{OutHead}
+use Rattle.ssp_frame.specs.declared.data_out.OutFrame.{OutFrame}
+use Rattle.ssp_frame.specs.declared.data_out.OutRead.{OutRead}
+use Rattle.ssp_frame.specs.declared.response.ResponseHead.{ResponseHead}
+use Rattle.ssp_frame.specs.declared.response.ResponseFrame.{ResponseFrame}
+use Rattle.ssp_frame.specs.declared.response.ResponseRead.{ResponseRead}
 use Rattle.transfer.specs.Calls.{Call, start}
 use Rattle.transfer.specs.declared.Stepped.{Stepped}
 use Rattle.send.specs.Send.{headOf}
 use Rattle.send.specs.Calls as sending
 use Rattle.runs.specs.declared.Run.{Run}
-use Rattle.sonerwal.specs.Face.{Read, Write, DataGiven, open9, data5, data6}
+use Rattle.sonerwal.specs.Face.{Read, Write, Given, DataGiven, open9, data5, data6, xfer8, out6, out7, response6, response7}
 use Rattle.claims.proofs.Calls.{ReadOpen, WriteOpen, ReadData, WriteData, FaceOpenRead, FaceOpenWrite, FaceDataRead, FaceDataWrite, HigherThan, Start, NextFrame, ReadNumber, Feed, Close}
+use Rattle.claims.proofs.Calls.{ReadXfer, WriteXfer, ReadOut, WriteOut, ReadResponse, WriteResponse, FaceXferRead, FaceXferWrite, FaceOutRead, FaceOutWrite, FaceResponseRead, FaceResponseWrite}
 
--- three, six and nine of A, whatever R stands behind them
+-- three and six to nine of A, whatever R stands behind them
 abbrev pub first3 : {A R : Type 0} → A × (A × (A × R)) → List A
 first3 x = x .0 ∷ x .1 .0 ∷ x .1 .1 .0 ∷ []
 
@@ -27,6 +36,15 @@ behind3 x = x .1 .1 .1
 
 abbrev pub first6 : {A R : Type 0} → A × (A × (A × (A × (A × (A × R))))) → List A
 first6 x = first3 x ++ first3 (behind3 x)
+
+abbrev pub behind6 : {A B C D E F R : Type 0} → A × (B × (C × (D × (E × (F × R))))) → R
+behind6 x = behind3 (behind3 x)
+
+abbrev pub first7 : {A R : Type 0} → A × (A × (A × (A × (A × (A × (A × R)))))) → List A
+first7 x = first6 x ++ (behind6 x .0 ∷ [])
+
+abbrev pub first8 : {A R : Type 0} → A × (A × (A × (A × (A × (A × (A × (A × R))))))) → List A
+first8 x = first6 x ++ (behind6 x .0 ∷ behind6 x .1 .0 ∷ [])
 
 abbrev pub first9 : {A R : Type 0} → A × (A × (A × (A × (A × (A × (A × (A × (A × R)))))))) → List A
 first9 x = first6 x ++ first3 (behind3 (behind3 x))
@@ -44,6 +62,22 @@ head-of ns = data5 (getD ns 0 0) (getD ns 1 0) (getD ns 2 0) (getD ns 3 0) (getD
 abbrev pub data-of : List ℕ → DataFrame
 data-of ns = data6 (getD ns 0 0) (getD ns 1 0) (getD ns 2 0) (getD ns 3 0) (getD ns 4 0) (getD ns 5 0)
 
+-- as an XFER_RDY, and as the heads and frames of data out and RESPONSE
+abbrev pub xfer-of : List ℕ → XferHead
+xfer-of ns = xfer8 (getD ns 0 0) (getD ns 1 0) (getD ns 2 0) (getD ns 3 0) (getD ns 4 0) (getD ns 5 0) (getD ns 6 0) (getD ns 7 0)
+
+abbrev pub out-head-of : List ℕ → OutHead
+out-head-of ns = out6 (getD ns 0 0) (getD ns 1 0) (getD ns 2 0) (getD ns 3 0) (getD ns 4 0) (getD ns 5 0)
+
+abbrev pub out-of : List ℕ → OutFrame
+out-of ns = out7 (getD ns 0 0) (getD ns 1 0) (getD ns 2 0) (getD ns 3 0) (getD ns 4 0) (getD ns 5 0) (getD ns 6 0)
+
+abbrev pub response-head-of : List ℕ → ResponseHead
+response-head-of ns = response6 (getD ns 0 0) (getD ns 1 0) (getD ns 2 0) (getD ns 3 0) (getD ns 4 0) (getD ns 5 0)
+
+abbrev pub response-of : List ℕ → ResponseFrame
+response-of ns = response7 (getD ns 0 0) (getD ns 1 0) (getD ns 2 0) (getD ns 3 0) (getD ns 4 0) (getD ns 5 0) (getD ns 6 0)
+
 -- ---- the calls from Rattle; a reader is lent no fields
 
 abbrev pub open-read : ReadOpen → Read OpenRead (Unit {0})
@@ -57,6 +91,28 @@ data-read c = record { frame = now (c .args .0); lent = tt; answer = c .answer; 
 
 abbrev pub data-write : WriteData → Write Written DataGiven
 data-write c =
+    let out = c .args .1 .1 .0 in
+    record { given = record { head = c .args .0; body = now (c .args .1 .0) }; lent = now out; answer = c .answer; left = now (c .exit .1 .1 .0) }
+
+abbrev pub xfer-read : ReadXfer → Read XferRead (Unit {0})
+xfer-read c = record { frame = now (c .args .0); lent = tt; answer = c .answer; left = tt }
+
+abbrev pub xfer-write : WriteXfer → Write Written XferHead
+xfer-write c = record { given = c .args .0; lent = now (c .args .1 .0); answer = c .answer; left = now (c .exit .1 .0) }
+
+abbrev pub out-read : ReadOut → Read OutRead (Unit {0})
+out-read c = record { frame = now (c .args .0); lent = tt; answer = c .answer; left = tt }
+
+abbrev pub out-write : WriteOut → Write Written (Given OutHead)
+out-write c =
+    let out = c .args .1 .1 .0 in
+    record { given = record { head = c .args .0; body = now (c .args .1 .0) }; lent = now out; answer = c .answer; left = now (c .exit .1 .1 .0) }
+
+abbrev pub response-read : ReadResponse → Read ResponseRead (Unit {0})
+response-read c = record { frame = now (c .args .0); lent = tt; answer = c .answer; left = tt }
+
+abbrev pub response-write : WriteResponse → Write Written (Given ResponseHead)
+response-write c =
     let out = c .args .1 .1 .0 in
     record { given = record { head = c .args .0; body = now (c .args .1 .0) }; lent = now out; answer = c .answer; left = now (c .exit .1 .1 .0) }
 
@@ -101,6 +157,55 @@ abbrev pub c-data-write : FaceDataWrite → Write ℕ DataGiven
 c-data-write c =
     let slices = behind3 (c .args) .1 .1 in
     record { given = record { head = head-of (data-given c); body = now (slices .0) }; lent = now (slices .1 .0); answer = c .answer; left = now (behind3 (behind3 (c .exit)) .0) }
+
+abbrev pub xfer-lent : FaceXferRead → List ℕ
+xfer-lent c = map now (first8 (c .args .1))
+
+abbrev pub xfer-left : FaceXferRead → List ℕ
+xfer-left c = map now (first8 (c .exit .1))
+
+abbrev pub xfer-given : FaceXferWrite → List ℕ
+xfer-given c = first8 (c .args)
+
+abbrev pub out-lent : FaceOutRead → List ℕ
+out-lent c = map now (first7 (c .args .1))
+
+abbrev pub out-left : FaceOutRead → List ℕ
+out-left c = map now (first7 (c .exit .1))
+
+abbrev pub out-given : FaceOutWrite → List ℕ
+out-given c = first6 (c .args)
+
+abbrev pub response-lent : FaceResponseRead → List ℕ
+response-lent c = map now (first7 (c .args .1))
+
+abbrev pub response-left : FaceResponseRead → List ℕ
+response-left c = map now (first7 (c .exit .1))
+
+abbrev pub response-given : FaceResponseWrite → List ℕ
+response-given c = first6 (c .args)
+
+abbrev pub c-xfer-read : FaceXferRead → Read ℕ XferHead
+c-xfer-read c = record { frame = now (c .args .0); lent = xfer-of (xfer-lent c); answer = c .answer; left = xfer-of (xfer-left c) }
+
+abbrev pub c-xfer-write : FaceXferWrite → Write ℕ XferHead
+c-xfer-write c = record { given = xfer-of (xfer-given c); lent = now (behind6 (c .args) .1 .1 .0); answer = c .answer; left = now (behind6 (c .exit) .1 .1 .0) }
+
+abbrev pub c-out-read : FaceOutRead → Read ℕ OutFrame
+c-out-read c = record { frame = now (c .args .0); lent = out-of (out-lent c); answer = c .answer; left = out-of (out-left c) }
+
+abbrev pub c-out-write : FaceOutWrite → Write ℕ (Given OutHead)
+c-out-write c =
+    let slices = behind6 (c .args) in
+    record { given = record { head = out-head-of (out-given c); body = now (slices .0) }; lent = now (slices .1 .0); answer = c .answer; left = now (behind6 (c .exit) .1 .0) }
+
+abbrev pub c-response-read : FaceResponseRead → Read ℕ ResponseFrame
+c-response-read c = record { frame = now (c .args .0); lent = response-of (response-lent c); answer = c .answer; left = response-of (response-left c) }
+
+abbrev pub c-response-write : FaceResponseWrite → Write ℕ (Given ResponseHead)
+c-response-write c =
+    let slices = behind6 (c .args) in
+    record { given = record { head = response-head-of (response-given c); body = now (slices .0) }; lent = now (slices .1 .0); answer = c .answer; left = now (behind6 (c .exit) .1 .0) }
 
 -- ---- the calls of a transfer
 

@@ -8,6 +8,7 @@ use Rattle.send.specs.Calls as sending
 use Rattle.claims.proofs.Calls.{Start, Frame, Ack, Nak, Timeout, Lost, Nexus, Cancel, NextFrame}
 use Rattle.claims.proofs.Named.{asking, next-call, next-write}
 
+-- 02 c.5
 -- 01 READ.4 01 READ.5 01 READ.6 01 READ.8 01 READ.9 01 READ.10 01 READ.11 01 READ.12 01 READ.13 01 READ.14
 pub record Steps : Type 0 where
   pub starts : (c : Start) → c .answer ≡ stepOf limit (asking c) (c .args .0)

@@ -2,6 +2,8 @@
 -- source, and holds of all of them. Assumes nothing.
 pub mod Frames
 pub mod Transfer
+pub mod Write
+pub mod Reply
 pub mod Text
 pub mod Links
 pub mod Ports
@@ -9,9 +11,11 @@ pub mod Ports
 pub record Total : Type 2 where
   pub frames : Frames.Frames
   pub transfer : Transfer.Transfer
+  pub write : Write.Write
+  pub reply : Reply.Reply
   pub text : Text.Text
   pub links : Links.Links
   pub ports : Ports.Ports
 
 pub total : Total
-total = record { frames = Frames.frames; transfer = Transfer.transfer; text = Text.text; links = Links.links; ports = Ports.ports }
+total = record { frames = Frames.frames; transfer = Transfer.transfer; write = Write.write; reply = Reply.reply; text = Text.text; links = Links.links; ports = Ports.ports }

@@ -2,6 +2,8 @@
 -- The promises are those generated from the sources. Assumes nothing.
 pub mod Frames
 pub mod Transfer
+pub mod Write
+pub mod Reply
 pub mod Text
 pub mod Links
 pub mod Ports
@@ -12,9 +14,11 @@ pub mod Ports
 pub record Unique : Type 2 where
   pub frames : Frames.Frames
   pub transfer : Transfer.Transfer
+  pub write : Write.Write
+  pub reply : Reply.Reply
   pub text : Text.Text
   pub links : Links.Links
   pub ports : Ports.Ports
 
 pub unique : Unique
-unique = record { frames = Frames.frames; transfer = Transfer.transfer; text = Text.text; links = Links.links; ports = Ports.ports }
+unique = record { frames = Frames.frames; transfer = Transfer.transfer; write = Write.write; reply = Reply.reply; text = Text.text; links = Links.links; ports = Ports.ports }

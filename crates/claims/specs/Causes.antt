@@ -10,7 +10,11 @@ use Rattle.refusals.specs.declared.Refusal.{Refusal}
 use Rattle.open_frame.specs.declared.Head.{Head}
 use Rattle.open_frame.specs.declared.OpenFrame.{OpenFrame}
 use Rattle.ssp_frame.specs.declared.data.DataHead.{DataHead}
-use Rattle.sonerwal.specs.Face.{Read, Write, DataGiven}
+use Rattle.ssp_frame.specs.declared.xfer_rdy.XferHead.{XferHead}
+use Rattle.ssp_frame.specs.declared.data_out.OutHead.{OutHead}
+use Rattle.ssp_frame.specs.declared.response.ResponseHead.{ResponseHead}
+use Rattle.wire.specs.Be.{beAt}
+use Rattle.sonerwal.specs.Face.{Read, Write, Given, DataGiven}
 
 -- a slice of bytes
 abbrev pub Bytes : List ℕ → Type 0
@@ -66,6 +70,87 @@ pub record DataBytes (s : List ℕ) : Type 0 where
   pub byte19 : getD s 19 0 ≡ 255
   pub fill : (i : ℕ) → i < getD s 11 0 → getD s (length s - getD s 11 0 + i) 0 ≡ 0
 
+-- XFER_RDY: another type, a bit of byte 10 not named, a byte that is to be zero and isn't, or a write data length of 0 is 2
+pub record XferBytes (s : List ℕ) : Type 0 where
+  pub kind : getD s 0 0 ≡ 5
+  pub byte4 : getD s 4 0 ≡ 0
+  pub bytes8-9 : (i : ℕ) → i < 2 → getD s (8 + i) 0 ≡ 0
+  pub bit0 : getD s 10 0 % 2 ≡ 0
+  pub byte10 : getD s 10 0 ≤ 7
+  pub byte11 : getD s 11 0 ≡ 0
+  pub bytes12-15 : (i : ℕ) → i < 4 → getD s (12 + i) 0 ≡ 0
+  pub bytes20-23 : (i : ℕ) → i < 4 → getD s (20 + i) 0 ≡ 0
+  pub length : 1 ≤ getD s 28 0 + getD s 29 0 + getD s 30 0 + getD s 31 0
+  pub bytes32-35 : (i : ℕ) → i < 4 → getD s (32 + i) 0 ≡ 0
+
+pub record XferFields (h : XferHead) : Type 0 where
+  pub destination : h .destination ≤ 16777215
+  pub source : h .source ≤ 16777215
+  pub retransmit : h .retransmit ≤ 1
+  pub retry : h .retry ≤ 1
+  pub length : 1 ≤ h .length
+
+-- data out: as DATA of a read, but under any transfer tag
+pub record OutBytes (s : List ℕ) : Type 0 where
+  pub kind : getD s 0 0 ≡ 1
+  pub byte4 : getD s 4 0 ≡ 0
+  pub bytes8-9 : (i : ℕ) → i < 2 → getD s (8 + i) 0 ≡ 0
+  pub byte10 : getD s 10 0 ≤ 1
+  pub byte11 : getD s 11 0 ≤ 3
+  pub bytes12-15 : (i : ℕ) → i < 4 → getD s (12 + i) 0 ≡ 0
+  pub fill : (i : ℕ) → i < getD s 11 0 → getD s (length s - getD s 11 0 + i) 0 ≡ 0
+
+pub record OutFields (h : OutHead) : Type 0 where
+  pub destination : h .destination ≤ 16777215
+  pub source : h .source ≤ 16777215
+  pub changing : h .changing ≤ 1
+
+-- RESPONSE: n bytes of data of their kind's length, and m of output
+pub record ResponseLengths (present n m : ℕ) : Type 0 where
+  pub most : n ≤ 1000
+  pub none : present ≡ 0 → n ≡ 0
+  pub response : present ≡ 1 → n ≡ 4
+  pub sense : present ≡ 2 → 1 ≤ n
+  pub room : 48 + (n + 3) / 4 * 4 ≤ m
+
+pub record ResponseFields (h : ResponseHead) : Type 0 where
+  pub destination : h .destination ≤ 16777215
+  pub source : h .source ≤ 16777215
+  pub retransmit : h .retransmit ≤ 1
+  pub present : h .present ≤ 2
+  pub status : h .present ≡ 1 → h .status ≡ 0
+
+-- 48 to 1,048 bytes, a multiple of four, else 1
+pub record ResponseLength (n : ℕ) : Type 0 where
+  pub least : 48 ≤ n
+  pub most : n ≤ 1048
+  pub four : n % 4 ≡ 0
+
+-- data present 0: no data, and both lengths are 0; 1 response data: 4 bytes, and status 0; 2 sense data: 1 byte or more
+pub record Kinds (present status sense response n : ℕ) : Type 0 where
+  pub listed : present ≤ 2
+  pub none : present ≡ 0 → (n ≡ 0) × ((sense ≡ 0) × (response ≡ 0))
+  pub one : present ≡ 1 → (n ≡ 4) × ((sense ≡ 0) × ((response ≡ n) × (status ≡ 0)))
+  pub two : present ≡ 2 → (1 ≤ n) × ((sense ≡ n) × (response ≡ 0))
+
+pub record ResponseBytes (s : List ℕ) : Type 0 where
+  pub kind : getD s 0 0 ≡ 7
+  pub byte4 : getD s 4 0 ≡ 0
+  pub bytes8-9 : (i : ℕ) → i < 2 → getD s (8 + i) 0 ≡ 0
+  pub bit0 : getD s 10 0 % 2 ≡ 0
+  pub byte10 : getD s 10 0 ≤ 3
+  pub byte11 : getD s 11 0 ≤ 3
+  pub bytes12-15 : (i : ℕ) → i < 4 → getD s (12 + i) 0 ≡ 0
+  pub byte18 : getD s 18 0 ≡ 255
+  pub byte19 : getD s 19 0 ≡ 255
+  pub bytes20-23 : (i : ℕ) → i < 4 → getD s (20 + i) 0 ≡ 0
+  pub bytes24-31 : (i : ℕ) → i < 8 → getD s (24 + i) 0 ≡ 0
+  pub bytes32-33 : (i : ℕ) → i < 2 → getD s (32 + i) 0 ≡ 0
+  pub bytes36-39 : (i : ℕ) → i < 4 → getD s (36 + i) 0 ≡ 0
+  pub room : 48 + getD s 11 0 ≤ length s
+  pub fill : (i : ℕ) → i < getD s 11 0 → getD s (length s - getD s 11 0 + i) 0 ≡ 0
+  pub lengths : Kinds (getD s 34 0) (getD s 35 0) (beAt s 40 4) (beAt s 44 4) (length s - 48 - getD s 11 0)
+
 -- 01 READ.2
 -- n bytes of data for a frame of `count` bytes, and m of output
 pub record NextLengths (count n m : ℕ) : Type 0 where
@@ -93,3 +178,21 @@ ReadsData refused done c = Bytes (c .frame) → Answers refused done (c .answer)
 
 abbrev pub WritesData : {A : Type 0} → (Refusal → A) → A → Write A DataGiven → Type 1
 WritesData refused done c = Answers refused done (c .answer) (DataLengths (length (c .given .body)) (length (c .lent))) (DataFields (c .given .head)) (c .lent) (c .left)
+
+abbrev pub ReadsXfer : {A F : Type 0} → (Refusal → A) → A → Read A F → Type 1
+ReadsXfer refused done c = Bytes (c .frame) → Answers refused done (c .answer) (length (c .frame) ≡ 36) (XferBytes (c .frame)) (c .lent) (c .left)
+
+abbrev pub WritesXfer : {A : Type 0} → (Refusal → A) → A → Write A XferHead → Type 1
+WritesXfer refused done c = Answers refused done (c .answer) (36 ≤ length (c .lent)) (XferFields (c .given)) (c .lent) (c .left)
+
+abbrev pub ReadsOut : {A F : Type 0} → (Refusal → A) → A → Read A F → Type 1
+ReadsOut refused done c = Bytes (c .frame) → Answers refused done (c .answer) (DataLength (length (c .frame))) (OutBytes (c .frame)) (c .lent) (c .left)
+
+abbrev pub WritesOut : {A : Type 0} → (Refusal → A) → A → Write A (Given OutHead) → Type 1
+WritesOut refused done c = Answers refused done (c .answer) (DataLengths (length (c .given .body)) (length (c .lent))) (OutFields (c .given .head)) (c .lent) (c .left)
+
+abbrev pub ReadsResponse : {A F : Type 0} → (Refusal → A) → A → Read A F → Type 1
+ReadsResponse refused done c = Bytes (c .frame) → Answers refused done (c .answer) (ResponseLength (length (c .frame))) (ResponseBytes (c .frame)) (c .lent) (c .left)
+
+abbrev pub WritesResponse : {A : Type 0} → (Refusal → A) → A → Write A (Given ResponseHead) → Type 1
+WritesResponse refused done c = Answers refused done (c .answer) (ResponseLengths (c .given .head .present) (length (c .given .body)) (length (c .lent))) (ResponseFields (c .given .head)) (c .lent) (c .left)
