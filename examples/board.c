@@ -1,20 +1,22 @@
 /*
  * A recorder board in small. A camera shot a stereo pair, and a host reads both images from a target port with two phys, a read
  * transfer for each. Phy 0 is wired to an expander, of which the two links (XL) of the connection are shown, phy 1 to the host.
- * The wire loses frames, spoils some, which the host NAKs, and is late with answers, by a seeded rule. Time is in microseconds.
+ * The wire loses frames, spoils some, which the host NAKs, and is late with answers, by a seeded rule. Then the host writes a
+ * calibration file. Time is in microseconds.
  *
- * The day is told twice, by the same seed: with Sonerwal's transfer, and with the rule of the firmware before it, which
- * counted unanswered frames modulo sixteen.
+ * The day of the pair is told twice, by the same seed: with Sonerwal's transfer, and with the rule of the firmware before it,
+ * which counted unanswered frames modulo sixteen.
  */
 #include <string.h>
 
 #include "board_expander.h"
 #include "board_old.h"
 #include "board_tell.h"
+#include "board_upload.h"
+#include "board_wire.h"
 #include "sonerwal.h"
 
-enum { RESENDS = 3, BURST = 16, PHYS = 2, STREAMS = 2, SEED = 40 };
-enum { HOST_HASH = 0x123456, BOARD_HASH = 0x654321 };
+enum { RESENDS = 3, BURST = 16, PHYS = 2, STREAMS = 2, SEED = 40, UPLOAD_SEED = 127 };
 
 static const uint64_t host = UINT64_C(0x5003048087654321), board = UINT64_C(0x5000C50012345678);
 
@@ -38,15 +40,6 @@ static struct sonerwal_request list[SONERWAL_SLOTS];
 static struct sonerwal_port port;
 static bool opening[PHYS], sending[PHYS], refused_once;
 static bool old_rule; /* the firmware before */
-static uint32_t seed;
-
-/* ---- The wire: one in so many, by the seed */
-
-static bool one_in(unsigned n)
-{
-	seed = seed * 1664525u + 1013904223u;
-	return (seed >> 16) % n == 0;
-}
 
 /* ---- The two rules */
 
@@ -112,6 +105,11 @@ static struct stream *stream_of(uint16_t tag)
 	return &streams[tag - 1];
 }
 
+static const char *name_of(uint16_t tag)
+{
+	return tag == FILE_TAG ? "file" : stream_of(tag)->name;
+}
+
 static void told(const char *what, const struct sonerwal_port_step *r)
 {
 	sonerwal_port_keep(&port, r);
@@ -121,7 +119,7 @@ static void told(const char *what, const struct sonerwal_port_step *r)
 	line("port", what);
 	printf("%s", sonerwal_answer_name(r->answer));
 	if (r->slot != SONERWAL_NO_SLOT) {
-		printf(": %s", stream_of(r->frame.tag)->name);
+		printf(": %s", name_of(r->frame.tag));
 	}
 	if (r->phy != SONERWAL_NO_PHY) {
 		printf(", phy %d", r->phy);
@@ -129,8 +127,8 @@ static void told(const char *what, const struct sonerwal_port_step *r)
 	printf("\n");
 }
 
-/* The frame of a request goes: it is made now and not before. What the wire does with it is drawn. */
-static void send_frame(struct stream *s, uint8_t phy)
+/* The next frame of an image goes. What the wire does with it is drawn. */
+static void send_frame(struct stream *s)
 {
 	uint8_t frame[SONERWAL_DATA_SIZE_MAX];
 	struct sonerwal_data data;
@@ -150,10 +148,20 @@ static void send_frame(struct stream *s, uint8_t phy)
 	}
 	s->burst++;
 	s->asked = false;
-	sending[phy] = true;
 	line(s->name, "frame");
 	printf("bytes %" PRIu32 " to %" PRIu32 "%s; unanswered %u\n", from, from + length - 1,
 	       lost ? ", lost" : spoiled ? ", spoiled" : "", unanswered_by(s));
+}
+
+/* The frame of a request is made now and not before. */
+static void send(const struct sonerwal_port_step *r)
+{
+	if (r->frame.tag == FILE_TAG) {
+		send_upload_frame();
+	} else {
+		send_frame(stream_of(r->frame.tag));
+	}
+	sending[r->phy] = true;
 }
 
 static void follow(const char *what, const struct sonerwal_port_step *r)
@@ -163,7 +171,7 @@ static void follow(const char *what, const struct sonerwal_port_step *r)
 	if (r->answer == SONERWAL_OPEN) {
 		opening[r->phy] = true;
 	} else if (r->answer == SONERWAL_SEND) {
-		send_frame(stream_of(r->frame.tag), r->phy);
+		send(r);
 		now++;
 	} else if (r->answer == SONERWAL_RETRIED) {
 		now += SONERWAL_RETRY_MICROSECONDS;
@@ -192,22 +200,26 @@ static void confirm(uint8_t phy, const struct sonerwal_open *frame)
 
 /* ---- The board */
 
-static void ask(struct stream *s)
+static void submit(uint16_t tag)
 {
 	struct sonerwal_open head = {0};
 	struct sonerwal_port_step r;
 
-	if (s->asked || s->burst == BURST || length_of(s) == 0) {
-		return;
-	}
 	head.protocol = SONERWAL_PROTOCOL_SSP;
 	head.rate = SONERWAL_RATE_6_GBPS;
-	head.tag = s->tag;
+	head.tag = tag;
 	head.destination = host;
 	head.source = board;
-	s->asked = true;
 	r = sonerwal_port_submit(list, SONERWAL_SLOTS, port, head, now);
 	follow("submit", &r);
+}
+
+static void ask(struct stream *s)
+{
+	if (!s->asked && s->burst < BURST && length_of(s) > 0) {
+		s->asked = true;
+		submit(s->tag);
+	}
 }
 
 static void choose(struct sonerwal_open *open)
@@ -225,14 +237,11 @@ static void choose(struct sonerwal_open *open)
 	} while (r.answer != SONERWAL_NOTHING);
 }
 
-/* One frame of each image goes, if it may. */
-static void round_of_frames(void)
+/* What was submitted goes, if it may. */
+static void carry(void)
 {
 	struct sonerwal_open open[PHYS];
 
-	for (unsigned i = 0; i < STREAMS; i++) {
-		ask(&streams[i]);
-	}
 	choose(open);
 	for (uint8_t phy = 0; phy < PHYS; phy++) {
 		if (opening[phy]) {
@@ -246,6 +255,15 @@ static void round_of_frames(void)
 			follow("frame status", &r);
 		}
 	}
+}
+
+/* One frame of each image. */
+static void round_of_frames(void)
+{
+	for (unsigned i = 0; i < STREAMS; i++) {
+		ask(&streams[i]);
+	}
+	carry();
 }
 
 /* What came back for the frames that went; a frame without an answer ends in the ACK/NAK timeout. */
@@ -353,10 +371,28 @@ static bool day(bool old, const char *title)
 	return same;
 }
 
+/* 02 c.1: The recorder must also take calibration files. */
+static bool upload(void)
+{
+	printf("The host writes a calibration file\n\n");
+	seed = UPLOAD_SEED;
+	begin_upload();
+	while (upload_has_frame()) {
+		submit(FILE_TAG);
+		carry();
+		hear_upload_answer();
+		hear_data();
+	}
+	hang_up();
+	return report_upload();
+}
+
 int main(void)
 {
 	bool whole = day(false, "Sonerwal's transfer");
 	printf("\n");
+	bool stored = upload();
+	printf("\n");
 	bool broken = !day(true, "The same wire, with unanswered frames counted modulo sixteen");
-	return whole && broken ? EXIT_SUCCESS : EXIT_FAILURE;
+	return whole && stored && broken ? EXIT_SUCCESS : EXIT_FAILURE;
 }

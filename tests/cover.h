@@ -22,7 +22,7 @@ struct field {
 
 enum { CLASSES = 4, SEEN = 10, CAUSES = 32 };
 
-/* One of the four frame calls, and what its cases met. */
+/* One of the frame calls, and what its cases met. */
 struct call {
 	const char *name;
 	const struct field *fields;

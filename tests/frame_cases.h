@@ -18,7 +18,7 @@ enum {
 	LONGEST = 1056, /* data and frame lengths go from 0 to here: past every bound of 01 */
 	EXTRA = 40,     /* an output is longer than its frame by up to this much */
 	GUARD = 32,     /* on each side of a buffer, less up to 7 bytes that it starts later */
-	ROOM = LONGEST + 24 + EXTRA + 8
+	ROOM = LONGEST + 48 + EXTRA + 8
 };
 
 /* ---- What a call is lent */

@@ -34,6 +34,9 @@ bool has_outside(const struct field *field)
 uint64_t draw_outside(const struct field *field)
 {
 	uint64_t value = field->high + 1;
+	if (field->high == largest(field)) {
+		return noise_below(field->low);
+	}
 	switch (noise_below(4)) {
 	case 0:
 		return value;

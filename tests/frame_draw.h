@@ -12,7 +12,7 @@ void draw_all(const struct field *fields, size_t count, uint64_t *values);
 /* Whether the number that carries the field can hold a value that the field can't. */
 bool has_outside(const struct field *field);
 
-/* The value just past the range, the largest of all, or any other outside. */
+/* The value just past the range, the largest of all, or any other outside; where the range ends with the largest, one before it. */
 uint64_t draw_outside(const struct field *field);
 
 #endif

@@ -3,7 +3,7 @@
 #include <stdbool.h>
 
 /* 01, OPEN address frame: "big-endian". */
-static uint64_t number_at(const uint8_t *at, size_t width)
+uint64_t plain_number(const uint8_t *at, size_t width)
 {
 	uint64_t number = 0;
 	for (size_t i = 0; i < width; i++) {
@@ -12,19 +12,19 @@ static uint64_t number_at(const uint8_t *at, size_t width)
 	return number;
 }
 
-static void put_number(uint8_t *at, size_t width, uint64_t number)
+void plain_put(uint8_t *at, size_t width, uint64_t number)
 {
 	for (size_t i = width; i-- > 0; number /= 256) {
 		at[i] = (uint8_t)(number % 256);
 	}
 }
 
-static void put_zeros(uint8_t *at, size_t count)
+void plain_zeros(uint8_t *at, size_t count)
 {
-	put_number(at, count, 0);
+	plain_put(at, count, 0);
 }
 
-static plain_faults fault_if(bool holds, unsigned bit)
+plain_faults plain_fault_if(bool holds, unsigned bit)
 {
 	return holds ? PLAIN_FAULT(bit) : 0;
 }
@@ -41,15 +41,15 @@ uint8_t plain_answer(plain_faults faults)
 
 static plain_faults open_length_faults(size_t frame_len)
 {
-	return fault_if(frame_len < 28, OPEN_SHORTER) | fault_if(frame_len > 28, OPEN_LONGER);
+	return plain_fault_if(frame_len < 28, OPEN_SHORTER) | plain_fault_if(frame_len > 28, OPEN_LONGER);
 }
 
 static plain_faults open_field_faults(const uint64_t fields[OPEN_FIELDS])
 {
-	return fault_if(fields[OPEN_INITIATOR] > 1, OPEN_BAD_INITIATOR) |
-	       fault_if(fields[OPEN_PROTOCOL] > 2, OPEN_BAD_PROTOCOL) |
-	       fault_if(fields[OPEN_FEATURES] > 15, OPEN_BAD_FEATURES) |
-	       fault_if(fields[OPEN_RATE] < 8 || fields[OPEN_RATE] > 10, OPEN_BAD_RATE);
+	return plain_fault_if(fields[OPEN_INITIATOR] > 1, OPEN_BAD_INITIATOR) |
+	       plain_fault_if(fields[OPEN_PROTOCOL] > 2, OPEN_BAD_PROTOCOL) |
+	       plain_fault_if(fields[OPEN_FEATURES] > 15, OPEN_BAD_FEATURES) |
+	       plain_fault_if(fields[OPEN_RATE] < 8 || fields[OPEN_RATE] > 10, OPEN_BAD_RATE);
 }
 
 static void split_first_bytes(const uint8_t *frame, uint64_t fields[OPEN_FIELDS])
@@ -69,7 +69,7 @@ static plain_faults open_frame_faults(const uint8_t *frame, size_t frame_len)
 		return faults;
 	}
 	split_first_bytes(frame, fields);
-	return faults | fault_if(frame[0] % 16 != 1, OPEN_BAD_TYPE) | open_field_faults(fields);
+	return faults | plain_fault_if(frame[0] % 16 != 1, OPEN_BAD_TYPE) | open_field_faults(fields);
 }
 
 plain_faults plain_open_read(const uint8_t *frame, size_t frame_len, uint64_t fields[OPEN_FIELDS])
@@ -79,11 +79,11 @@ plain_faults plain_open_read(const uint8_t *frame, size_t frame_len, uint64_t fi
 		return faults;
 	}
 	split_first_bytes(frame, fields);
-	fields[OPEN_TAG] = number_at(frame + 2, 2);
-	fields[OPEN_DESTINATION] = number_at(frame + 4, 8);
-	fields[OPEN_SOURCE] = number_at(frame + 12, 8);
-	fields[OPEN_PBC] = number_at(frame + 21, 1);
-	fields[OPEN_AWT] = number_at(frame + 22, 2);
+	fields[OPEN_TAG] = plain_number(frame + 2, 2);
+	fields[OPEN_DESTINATION] = plain_number(frame + 4, 8);
+	fields[OPEN_SOURCE] = plain_number(frame + 12, 8);
+	fields[OPEN_PBC] = plain_number(frame + 21, 1);
+	fields[OPEN_AWT] = plain_number(frame + 22, 2);
 	return 0;
 }
 
@@ -93,15 +93,15 @@ plain_faults plain_open_write(const uint64_t fields[OPEN_FIELDS], uint8_t *frame
 	if (faults) {
 		return faults;
 	}
-	put_number(frame, 1, fields[OPEN_INITIATOR] * 128 + fields[OPEN_PROTOCOL] * 16 + 1);
-	put_number(frame + 1, 1, fields[OPEN_FEATURES] * 16 + fields[OPEN_RATE]);
-	put_number(frame + 2, 2, fields[OPEN_TAG]);
-	put_number(frame + 4, 8, fields[OPEN_DESTINATION]);
-	put_number(frame + 12, 8, fields[OPEN_SOURCE]);
-	put_zeros(frame + 20, 1);
-	put_number(frame + 21, 1, fields[OPEN_PBC]);
-	put_number(frame + 22, 2, fields[OPEN_AWT]);
-	put_zeros(frame + 24, 4);
+	plain_put(frame, 1, fields[OPEN_INITIATOR] * 128 + fields[OPEN_PROTOCOL] * 16 + 1);
+	plain_put(frame + 1, 1, fields[OPEN_FEATURES] * 16 + fields[OPEN_RATE]);
+	plain_put(frame + 2, 2, fields[OPEN_TAG]);
+	plain_put(frame + 4, 8, fields[OPEN_DESTINATION]);
+	plain_put(frame + 12, 8, fields[OPEN_SOURCE]);
+	plain_zeros(frame + 20, 1);
+	plain_put(frame + 21, 1, fields[OPEN_PBC]);
+	plain_put(frame + 22, 2, fields[OPEN_AWT]);
+	plain_zeros(frame + 24, 4);
 	return 0;
 }
 
@@ -144,15 +144,15 @@ static bool header_byte_fits(size_t k, uint8_t value)
 
 static plain_faults data_length_faults(size_t frame_len)
 {
-	return fault_if(frame_len < 28, DATA_BELOW_28) | fault_if(frame_len > 1048, DATA_ABOVE_1048) |
-	       fault_if(frame_len % 4 != 0, DATA_NOT_FOURS);
+	return plain_fault_if(frame_len < 28, DATA_BELOW_28) | plain_fault_if(frame_len > 1048, DATA_ABOVE_1048) |
+	       plain_fault_if(frame_len % 4 != 0, DATA_NOT_FOURS);
 }
 
 static plain_faults data_header_faults(const uint8_t *frame)
 {
 	plain_faults faults = 0;
 	for (size_t k = 0; k < 24; k++) {
-		faults |= fault_if(!header_byte_fits(k, frame[k]), DATA_BAD_BYTE_0 + (unsigned)k);
+		faults |= plain_fault_if(!header_byte_fits(k, frame[k]), DATA_BAD_BYTE_0 + (unsigned)k);
 	}
 	return faults;
 }
@@ -161,7 +161,7 @@ static plain_faults data_fill_faults(const uint8_t *frame, size_t frame_len)
 {
 	plain_faults faults = 0;
 	for (size_t i = frame_len - frame[11]; i < frame_len; i++) {
-		faults |= fault_if(frame[i] != 0, DATA_BAD_FILL);
+		faults |= plain_fault_if(frame[i] != 0, DATA_BAD_FILL);
 	}
 	return faults;
 }
@@ -183,11 +183,11 @@ plain_faults plain_data_read(const uint8_t *frame, size_t frame_len, uint64_t fi
 	if (faults) {
 		return faults;
 	}
-	fields[DATA_HASHED_DESTINATION] = number_at(frame + 1, 3);
-	fields[DATA_HASHED_SOURCE] = number_at(frame + 5, 3);
+	fields[DATA_HASHED_DESTINATION] = plain_number(frame + 1, 3);
+	fields[DATA_HASHED_SOURCE] = plain_number(frame + 5, 3);
 	fields[DATA_CHANGING] = frame[10];
-	fields[DATA_TAG] = number_at(frame + 16, 2);
-	fields[DATA_OFFSET] = number_at(frame + 20, 4);
+	fields[DATA_TAG] = plain_number(frame + 16, 2);
+	fields[DATA_OFFSET] = plain_number(frame + 20, 4);
 	fields[DATA_LENGTH] = frame_len - 24 - frame[11];
 	return 0;
 }
@@ -195,11 +195,11 @@ plain_faults plain_data_read(const uint8_t *frame, size_t frame_len, uint64_t fi
 static plain_faults data_write_faults(const uint64_t fields[DATA_FIELDS], size_t frame_len)
 {
 	size_t body_len = (size_t)fields[DATA_LENGTH];
-	return fault_if(body_len < 1, DATA_BODY_EMPTY) | fault_if(body_len > 1024, DATA_BODY_ABOVE_1024) |
-	       fault_if(frame_len < 24 + body_len + plain_data_fill(body_len), DATA_OUTPUT_SHORT) |
-	       fault_if(fields[DATA_HASHED_DESTINATION] > 0xFFFFFF, DATA_BAD_DESTINATION) |
-	       fault_if(fields[DATA_HASHED_SOURCE] > 0xFFFFFF, DATA_BAD_SOURCE) |
-	       fault_if(fields[DATA_CHANGING] > 1, DATA_BAD_CHANGING);
+	return plain_fault_if(body_len < 1, DATA_BODY_EMPTY) | plain_fault_if(body_len > 1024, DATA_BODY_ABOVE_1024) |
+	       plain_fault_if(frame_len < 24 + body_len + plain_data_fill(body_len), DATA_OUTPUT_SHORT) |
+	       plain_fault_if(fields[DATA_HASHED_DESTINATION] > 0xFFFFFF, DATA_BAD_DESTINATION) |
+	       plain_fault_if(fields[DATA_HASHED_SOURCE] > 0xFFFFFF, DATA_BAD_SOURCE) |
+	       plain_fault_if(fields[DATA_CHANGING] > 1, DATA_BAD_CHANGING);
 }
 
 plain_faults plain_data_write(const uint64_t fields[DATA_FIELDS], const uint8_t *body, uint8_t *frame,
@@ -211,20 +211,20 @@ plain_faults plain_data_write(const uint64_t fields[DATA_FIELDS], const uint8_t 
 	if (faults) {
 		return faults;
 	}
-	put_number(frame, 1, 1);
-	put_number(frame + 1, 3, fields[DATA_HASHED_DESTINATION]);
-	put_zeros(frame + 4, 1);
-	put_number(frame + 5, 3, fields[DATA_HASHED_SOURCE]);
-	put_zeros(frame + 8, 2);
-	put_number(frame + 10, 1, fields[DATA_CHANGING]);
-	put_number(frame + 11, 1, fill);
-	put_zeros(frame + 12, 4);
-	put_number(frame + 16, 2, fields[DATA_TAG]);
-	put_number(frame + 18, 2, 0xFFFF);
-	put_number(frame + 20, 4, fields[DATA_OFFSET]);
+	plain_put(frame, 1, 1);
+	plain_put(frame + 1, 3, fields[DATA_HASHED_DESTINATION]);
+	plain_zeros(frame + 4, 1);
+	plain_put(frame + 5, 3, fields[DATA_HASHED_SOURCE]);
+	plain_zeros(frame + 8, 2);
+	plain_put(frame + 10, 1, fields[DATA_CHANGING]);
+	plain_put(frame + 11, 1, fill);
+	plain_zeros(frame + 12, 4);
+	plain_put(frame + 16, 2, fields[DATA_TAG]);
+	plain_put(frame + 18, 2, 0xFFFF);
+	plain_put(frame + 20, 4, fields[DATA_OFFSET]);
 	for (size_t i = 0; i < body_len; i++) {
 		frame[24 + i] = body[i];
 	}
-	put_zeros(frame + 24 + body_len, fill);
+	plain_zeros(frame + 24 + body_len, fill);
 	return 0;
 }

@@ -7,6 +7,7 @@
 #ifndef SONERWAL_TESTS_PLAIN_H
 #define SONERWAL_TESTS_PLAIN_H
 
+#include <stdbool.h>
 #include <stddef.h>
 #include <stdint.h>
 
@@ -72,8 +73,15 @@ enum plain_data_write_fault {
 	DATA_WRITE_FAULTS
 };
 
+plain_faults plain_fault_if(bool holds, unsigned bit);
+
 /* The answer that document 01 gives to a call with these faults. */
 uint8_t plain_answer(plain_faults faults);
+
+/* A number in this many bytes, the highest first, and zeros. */
+uint64_t plain_number(const uint8_t *at, size_t width);
+void plain_put(uint8_t *at, size_t width, uint64_t number);
+void plain_zeros(uint8_t *at, size_t count);
 
 /* Each of these names the faults of a call and, where there are none, does what the call is for. */
 plain_faults plain_open_read(const uint8_t *frame, size_t frame_len, uint64_t fields[OPEN_FIELDS]);

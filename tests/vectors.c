@@ -6,6 +6,7 @@
  * are this project's own.
  */
 #include "check.h"
+#include "hex.h"
 #include "sonerwal.h"
 
 #include <string.h>
@@ -21,26 +22,6 @@ enum direction { BOTH, READ };
 #define RATES "include/scsi/scsi_transport_sas.h: enum sas_linkrate."
 #define SAS_H "include/scsi/sas.h: "
 #define HEADER SAS_H "struct ssp_frame_hdr."
-
-/* ---- Bytes written as hexadecimal digits, with blanks between the fields */
-
-static uint8_t digit(char c)
-{
-	return (uint8_t)(c <= '9' ? c - '0' : c - 'A' + 10);
-}
-
-static size_t bytes_of(const char *hex, uint8_t *bytes)
-{
-	size_t digits = 0;
-	for (; *hex; hex++) {
-		if (*hex != ' ') {
-			uint8_t high = digits % 2 ? bytes[digits / 2] : 0;
-			bytes[digits / 2] = (uint8_t)(high * 16 + digit(*hex));
-			digits++;
-		}
-	}
-	return digits / 2;
-}
 
 /* ---- OPEN */
 

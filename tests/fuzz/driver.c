@@ -1,6 +1,6 @@
 /*
  * Drives the fuzz target where libFuzzer can't be had: inputs that are noise, frames that begin well with a few bytes off, and calls that
- * a transfer, a link or a port takes.
+ * a transfer, a link, a port, a write or a reply takes.
  *
  * usage: driver RUNS
  */
@@ -103,18 +103,49 @@ static size_t make_port(uint8_t *bytes)
 	return len;
 }
 
+/* START for 64 bytes in ranges of 16 with many retries, and calls; bytes above 5 are START and those with arguments. */
+static size_t make_write(uint8_t *bytes)
+{
+	static const uint8_t write[] = {8, 0, 6, 0, 0, 0, 0, 0, 0, 0, 64, 0, 0, 0, 16, 20};
+	static const uint8_t xfer[] = {7, 0, 0, 0, 0, 0, 0, 0, 0}, got[] = {8, 0, 0, 0, 8}, take[] = {10, 0, 0, 0, 0, 0, 8, 0, 0, 0};
+	size_t at = sizeof write;
+	memcpy(bytes, write, sizeof write);
+	while (at < 900) {
+		const uint8_t *call = below(3) ? xfer : below(2) ? got : take;
+		size_t len = call == xfer ? sizeof xfer : call == got ? sizeof got : sizeof take;
+		memcpy(bytes + at, call, len);
+		at += len;
+		bytes[at++] = (uint8_t)(below(8) ? below(4) ? 0 : 1 : below(11));
+	}
+	return at;
+}
+
+/* START with few resends, and calls; RESPONSEs mostly without data. */
+static size_t make_reply(uint8_t *bytes)
+{
+	static const uint8_t reply[] = {9, 0, 6, 0, 3};
+	size_t len = sizeof reply + below(200);
+	memcpy(bytes, reply, sizeof reply);
+	for (size_t i = sizeof reply; i < len; i++) {
+		bytes[i] = (uint8_t)(below(4) ? below(8) : 0);
+	}
+	return len;
+}
+
 static size_t make(uint8_t *bytes)
 {
 	for (size_t i = 0; i < LONGEST; i++) {
 		bytes[i] = (uint8_t)below(256);
 	}
 	size_t len = length();
-	switch (below(9)) {
+	switch (below(11)) {
 	case 0: len = make_open(bytes); break;
 	case 1: len = make_data(bytes); break;
 	case 2: len = make_transfer(bytes); break;
 	case 3: len = make_link(bytes); break;
 	case 4: len = make_port(bytes); break;
+	case 5: len = make_write(bytes); break;
+	case 6: len = make_reply(bytes); break;
 	default: break;
 	}
 	return len < LONGEST ? len : LONGEST;

@@ -19,9 +19,14 @@ void fill(struct input *in, void *to, size_t len);
 /* Ends the run if something isn't as it should be. */
 void require(int good, const char *what);
 
-/* The machines' calls, in machines.c and port.c. */
+/* The calls of a write's frames, in write_frames.c. */
+void try_write_frame(struct input *in);
+
+/* The machines' calls, in machines.c, port.c and writes.c. */
 void try_transfer(struct input *in);
 void try_link(struct input *in);
 void try_port(struct input *in);
+void try_write(struct input *in);
+void try_reply(struct input *in);
 
 #endif
