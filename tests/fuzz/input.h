@@ -26,7 +26,7 @@ void try_write_frame(struct input *in);
 void try_transfer(struct input *in);
 void try_link(struct input *in);
 void try_port(struct input *in);
-void try_write(struct input *in);
-void try_reply(struct input *in);
+void try_writes(struct input *in);
+void try_replies(struct input *in);
 
 #endif

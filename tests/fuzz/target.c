@@ -171,7 +171,7 @@ int LLVMFuzzerTestOneInput(const uint8_t *bytes, size_t len);
 int LLVMFuzzerTestOneInput(const uint8_t *bytes, size_t len)
 {
 	static void (*const calls[])(struct input *) = {try_open_read, try_open_write, try_data_read, try_data_write, try_transfer, try_link,
-	                                               try_port, try_write_frame, try_write, try_reply};
+	                                               try_port, try_write_frame, try_writes, try_replies};
 	struct input in = {bytes, bytes + len};
 	calls[number(&in, 1) % (sizeof calls / sizeof *calls)](&in);
 	return 0;

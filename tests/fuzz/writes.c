@@ -130,7 +130,7 @@ static struct sonerwal_write try_take(struct sonerwal_write s, struct input *in)
 	return judge(s, got, want);
 }
 
-void try_write(struct input *in)
+void try_writes(struct input *in)
 {
 	struct sonerwal_write s = {0};
 	if (number(in, 1) % 2) {
@@ -190,7 +190,7 @@ static struct sonerwal_reply try_respond(struct sonerwal_reply s, struct input *
 	return judge_reply(s, got, want);
 }
 
-void try_reply(struct input *in)
+void try_replies(struct input *in)
 {
 	struct sonerwal_reply s = {0};
 	if (number(in, 1) % 2) {
