@@ -21,7 +21,8 @@ use Rattle.write_history.specs.Demand.{WriteDemand}
 use Rattle.write_history.proofs.Alike.{AlikeData, self}
 use Rattle.write_history.proofs.Invariant.{Live, Inv}
 use Rattle.write_history.proofs.Says as says
-use Rattle.write_history.proofs.Steps.{makes, stays}
+use Rattle.write_history.proofs.Made.{stays}
+use Rattle.write_history.proofs.Steps.{makes}
 use Rattle.write_history.proofs.Demand.{lives-on, demand, at-first}
 use Rattle.take.specs.Ask.{askStep}
 use Rattle.take.specs.Take.{takeStep}

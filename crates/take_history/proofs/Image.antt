@@ -13,7 +13,7 @@ use Rattle.write.specs.declared.Answer.{Answer}
 use Rattle.write_history.specs.History.{Request, view, takes}
 use Rattle.write_history.specs.Demand.{lastEnd, EndToEnd, endOfRequest}
 use Rattle.write_history.proofs.Says.{isDone}
-use Rattle.write_history.proofs.Steps.{takes-awaited}
+use Rattle.write_history.proofs.Came.{takes-awaited}
 use Rattle.write_history.proofs.Demand.{at-first}
 use Rattle.take.specs.Take.{laid, payload, takeStore}
 use Rattle.take_history.specs.Calls.{Call, stepOf, run, Typed, AllTyped}

@@ -24,7 +24,7 @@ use Rattle.write_history.specs.History.{Data, Entry, started, asked, acked, nac
 use Rattle.write_history.specs.Demand.{lastEnd, EndToEnd, endOfRequest}
 use Rattle.write_history.proofs.Invariant.{Inv}
 use Rattle.write_history.proofs.Demand.{at-first}
-use Rattle.write_history.proofs.Steps.{takes-awaited}
+use Rattle.write_history.proofs.Came.{takes-awaited}
 use Rattle.take.specs.Take.{payload, laid, storedBy, takeStore}
 use Rattle.take_history.specs.Calls.{Call, plain, stepOf, run, Typed, AllTyped}
 use Rattle.take_history.specs.Calls as calls

@@ -5,6 +5,9 @@ pub mod Invariant
 pub mod Alike
 pub mod Effects
 pub mod Says
+pub mod Made
+pub mod Asked
+pub mod Came
 pub mod Steps
 pub mod Demand
 pub mod Apart
