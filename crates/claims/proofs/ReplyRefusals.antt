@@ -2,13 +2,13 @@
 -- decides one ground. Assumes nothing.
 use Prim.Native.Nat.{ℕ}
 use mathlib.Core.Bool.{true}
-use mathlib.Core.List.{List, _++_}
+use mathlib.Core.List.{List}
 use mathlib.Core.Logic.{_↔_}
 use mathlib.Core.Path.{_≡_, sym, ap, _∙_}
 use native.Mathlib.Omega.{arith}
 use lib.ListN.{length}
 use Rattle.laws.proofs.Tests.{unless}
-use Rattle.refusals.specs.Causes.{Ground, refuse, bufferGrounds, First, Decides, nil, cons}
+use Rattle.refusals.specs.Causes.{Ground, refuse, First, Decides, nil, cons}
 use Rattle.refusals.specs.declared.Refusal.{Refusal}
 use Rattle.refusals.proofs.Causes.{only, if-first, stays, through, decides-append}
 use Rattle.ssp_frame.specs.Response.{responseLeft}
@@ -21,14 +21,15 @@ use Rattle.reply.specs.declared.Reply.{Reply}
 use Rattle.reply.specs.declared.Stepped.{Stepped}
 use Rattle.reply.specs.declared.Answer.{Answer}
 use Rattle.reply.proofs.Refusals.{decides, one, refused-exactly, refused-kept}
+use Rattle.take.specs.Grounds as grounds
 use Rattle.take.specs.Respond.{respondCauses, respondStep, respondBytes, Responds}
 use Rattle.claims.specs.Causes.{ResponseLengths, ResponseFields}
 use Rattle.claims.proofs.Grounds.{response-lengths, response-fields}
 use Rattle.claims.proofs.ReplyCalls.{Write, head, body, lent, left}
 
--- 1 the data's length or an output below the frame's, 2 fields not listed, then 3 and 6 as RESPONSE
+-- its grounds, with what a RESPONSE's lengths and fields have to be
 abbrev pub respondGrounds : Reply → ResponseHead → List ℕ → List ℕ → List Ground
-respondGrounds s h body out = bufferGrounds (ResponseLengths (h .present) (length body) (length out)) (ResponseFields h) ++ groundsOf respond s
+respondGrounds s h body out = grounds.respondGrounds (ResponseLengths (h .present) (length body) (length out)) (ResponseFields h) s
 
 -- what a call that writes a RESPONSE answers, the state in its answer, and the output after it
 pub record Refuses (s : Reply) (h : ResponseHead) (body before : List ℕ) (r : Stepped) (after : List ℕ) : Type 1 where
