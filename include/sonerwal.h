@@ -2,8 +2,8 @@
  * Sonerwal: SAS storage logic for C firmware.
  *
  * The archive has the OPEN and DATA frames, the read transfer, the expander link (XL) and the port, each proved against
- * document 01, the owner's scope, which this header names beside each rule as "01, section"; and a write's frames, the
- * write and the reply, proved against request c) of document 02.
+ * document 01, the owner's scope, which this header names beside each rule as "01, section"; and by requests of document
+ * 02 the saved transfer, proved against request a), and a write's frames, the write and the reply, against request c).
  *
  * LINKING
  *
@@ -31,10 +31,10 @@
  * STATES
  *
  * A transfer, a write, a reply, a link and a port are plain structs that the caller keeps. A call is given one by value and
- * gives back the one to go on with, which may be copied, compared and saved like any other number. All zeros is the
+ * gives back the one to go on with, which may be copied, compared and stored like any other number. All zeros is the
  * transfer, the write or the reply before START, a link in XL0 that remembers nothing, and a port before setup. No
  * struct that is lent has padding: what would be padding is a member named zero4, zero2 or zero1 by its bytes, and is 0
- * in every state that a call gives back. Each call looks at the whole state first: one that breaks the rules beside its
+ * in every state that a call gives back. Each call looks at the whole state: one that breaks the rules beside its
  * struct is SONERWAL_REFUSED_RULES, and not a wrong step.
  *
  * ANSWERS (01, Refusal numbers)
@@ -43,7 +43,7 @@
  * Where several refusals apply the lowest number is given, but for sonerwal_transfer_next(), sonerwal_write_got() and
  * sonerwal_write_take(), which have an order of their own. A refusal gives back the state as it was lent, to the last
  * member, and leaves every lent byte, number and record as it was; so `s = r.state` is right after every call but a
- * setup, whose refusal gives no port.
+ * setup and a restore, which are lent none: refused, they give all zeros.
  */
 #ifndef SONERWAL_H
 #define SONERWAL_H
@@ -55,9 +55,9 @@
 extern "C" {
 #endif
 
-/* One number that grows with each version: 0.3.0 is 300. */
+/* One number that grows with each version: 0.4.0 is 400. */
 #define SONERWAL_VERSION_MAJOR 0
-#define SONERWAL_VERSION_MINOR 3
+#define SONERWAL_VERSION_MINOR 4
 #define SONERWAL_VERSION_PATCH 0
 #define SONERWAL_VERSION (SONERWAL_VERSION_MAJOR * 10000 + SONERWAL_VERSION_MINOR * 100 + SONERWAL_VERSION_PATCH)
 
@@ -72,7 +72,7 @@ enum sonerwal_answer {
 
 	/* 01, Refusal numbers */
 	SONERWAL_REFUSED_LENGTH = 1,   /* a buffer has the wrong length */
-	SONERWAL_REFUSED_UNLISTED = 2, /* a field or an event isn't one that document 01 lists */
+	SONERWAL_REFUSED_UNLISTED = 2, /* a field or an event isn't one that document 01 lists, or a line is no saved one */
 	SONERWAL_REFUSED_RULES = 3,    /* a setup number is out of range, or a lent state breaks its rules */
 	SONERWAL_REFUSED_PHY = 4,      /* the phy isn't one of the port's */
 	SONERWAL_REFUSED_PAST = 5,     /* the given time is before the port's last time */
@@ -667,6 +667,67 @@ struct sonerwal_transfer_step sonerwal_transfer_next(struct sonerwal_transfer s,
 
 /* Of the next frame's data; 0 where sonerwal_transfer_frame() refuses, which says why. */
 uint32_t sonerwal_transfer_length(struct sonerwal_transfer s);
+
+/* ---- A saved transfer (02, request a) ---------------------------------------------------------------------- */
+
+/*
+ * A read transfer as one line of text, so that new firmware goes on where the old stopped:
+ *
+ *   before the swap  sonerwal_transfer_save() writes the line, and the board keeps it
+ *   behind it        sonerwal_transfer_restore() reads it
+ *
+ * What is restored is what was saved, to the last member: whatever is called then answers, leaves and writes the same as
+ * without the swap. The line has the transfer alone: tag, hashed addresses, links and port are the caller's to keep. An
+ * answer that came during the swap is still to be reported; if the board may have missed one, that is
+ * sonerwal_transfer_timeout() or _lost().
+ *
+ * The line is ASCII, in columns with one tab between two:
+ *
+ *   column  holds
+ *   1       the form's number
+ *   2 to 5  offset, count, size, resends
+ *   6 to 8  read, balance, unanswered
+ *   9, 10   sent, used
+ *   last    phase: new, run, drain, done, fail or end
+ *
+ * Numbers are decimal, without a sign or a leading zero. No LF belongs to the line: whoever keeps lines in a file puts
+ * one behind each, and restores what stands before it. Columns 1 to 10 and the phase at the end are the same in every
+ * form; what a later form adds stands between them. No front of a saved line is a saved line, so that one which was cut
+ * short is refused and never taken for another transfer.
+ *
+ * The newest form and its room grow with the archive. They are meant to be used by name: such firmware only has to be
+ * compiled anew, while a 1 or a 69 in its source would be refused one day. What outlives a swap must not be laid out by
+ * them, since the two sides may differ: the length goes in front of the line, or an LF behind it. A form that is later
+ * than the archive is refused by restore.
+ */
+#define SONERWAL_SAVED_FORM 1u  /* the form that is written */
+#define SONERWAL_SAVED_ROOM 69u /* bytes that hold every line of it */
+
+/* What save gives: the bytes of the line, 0 with a refusal, and the answer. What lies behind the answer isn't promised. */
+struct sonerwal_saved {
+	size_t length;
+	uint8_t answer;
+};
+
+/*
+ * Writes the line of s to the front of line, which has so much room.
+ *
+ *   SONERWAL_REFUSED_LENGTH    form is SONERWAL_SAVED_FORM and room is below SONERWAL_SAVED_ROOM, whatever this line needs
+ *   SONERWAL_REFUSED_UNLISTED  form isn't SONERWAL_SAVED_FORM: it isn't written, and asks for no room
+ *   SONERWAL_REFUSED_RULES     s breaks its rules
+ *   SONERWAL_OK                the line has the length that is given; the bytes past it stay
+ */
+struct sonerwal_saved sonerwal_transfer_save(struct sonerwal_transfer s, uint8_t form, uint8_t *line, size_t room);
+
+/*
+ * The transfer that a line of so many bytes saves.
+ *
+ *   SONERWAL_REFUSED_UNLISTED  it is no saved line, or one whose numbers no START and calls after it leave; the state is
+ *                              that before START, all zeros
+ *   SONERWAL_OK                saved again, the state gives the same bytes
+ * The line is only read.
+ */
+struct sonerwal_transfer_step sonerwal_transfer_restore(const uint8_t *line, size_t length);
 
 /* ---- A write (02, request c) ------------------------------------------------------------------------------- */
 

@@ -1,6 +1,8 @@
 // Document 01, 'Read transfer': the caller keeps the state, lends it to each call and gets the new one back.
 ghost use mathlib.Core.Path.{_≡_};
 ghost use Rattle.transfer_lent.specs.Face.{start, frame, ack, nak, timeout, lost, nexus, cancel, faceOf, Next, lengthOf};
+ghost use Rattle.transfer_lent.specs.Saves.{restoreOf, Save};
+use transfer_lent::Saved;
 use transfer_lent::State;
 use transfer_lent::Step;
 
@@ -95,4 +97,22 @@ pub extern "C" fn sonerwal_transfer_length(s: State) -> u32
     ensures { λ r. ⌜ r ≡ lengthOf s ⌝ }
 {
     s.length()
+}
+
+// 02 a.2
+// Saves the transfer as a line of a form, to the front of line; the bytes past it stay, and on a refusal all of them.
+#[no_mangle]
+pub extern "C" fn sonerwal_transfer_save(s: State, form: u8, line: &mut [u8]) -> Saved
+    ensures { λ r. ⌜ Save s form (now (line .entry)) r (now (line .exit)) ⌝ }
+{
+    s.save(form, line)
+}
+
+// 02 a.2
+// The transfer that a line saves; on a refusal the state before START.
+#[no_mangle]
+pub extern "C" fn sonerwal_transfer_restore(line: &[u8]) -> Step
+    ensures { λ r. ⌜ r ≡ restoreOf (now (line .entry)) ⌝ }
+{
+    State::restore(line)
 }

@@ -95,7 +95,7 @@ reached-shown t (inr l) =
     })
 
 -- what some calls of all zeros leave is named and keeps its rules
-abbrev Good : State → Type 0
+abbrev pub Good : State → Type 0
 Good s = (formed s ≡ true) × (keepsRules limit (stateOf s) ≡ true)
 
 run-good : (cs : List Call) → AllTyped cs → Good (run cs zeros)
@@ -103,7 +103,7 @@ run-good cs typed =
     let t = sending.run limit (map callOf cs) unstarted in
     subst Good (sym (run-shown cs unstarted)) (shown-formed t, ap (keepsRules limit) (shown-back t) ∙ keeps limit (map callOf cs) typed)
 
-reached-good : (s : State) → Reached s → Good s
+pub reached-good : (s : State) → Reached s → Good s
 reached-good s (inl e) = subst Good (sym e) (run-good [] tt)
 reached-good s (inr l) = subst Good (l .leave) (run-good (start (l .b) (l .n) (l .m) (l .r) ∷ l .calls) (tt, l .typed))
 

@@ -4,4 +4,5 @@ pub mod Lent
 pub mod Face
 pub mod History
 pub mod Demand
+pub mod Saves
 pub mod Typed

@@ -1,9 +1,14 @@
 // A read transfer as C lends it and gets it back: numbers alone, since C can lend any byte where Rattle has an enum or a bool.
 ghost use mathlib.Core.Path.{_≡_};
 ghost use Rattle.transfer_lent.specs.Face.{start, frame, ack, nak, timeout, lost, nexus, cancel, faceOf, Next, lengthOf};
+ghost use Rattle.transfer_lent.specs.Saves.{restoreOf, Save};
+use refusals::Refusal;
+use saved::FORM;
+use saved::ROOM;
 
 mod lent;
 pub mod numbers;
+mod saves;
 
 // struct sonerwal_transfer: the fields of `Transfer`, with no padding between or behind them. All zeros is the state before START.
 #[repr(C)]
@@ -28,6 +33,13 @@ pub struct State {
 #[repr(C)]
 pub struct Step {
     pub state: State,
+    pub answer: u8,
+}
+
+// struct sonerwal_saved: the bytes of a saved line, 0 on a refusal, and the number of the answer.
+#[repr(C)]
+pub struct Saved {
+    pub length: usize,
     pub answer: u8,
 }
 
@@ -135,5 +147,35 @@ impl State {
             return lent::next_length(t);
         }
         0
+    }
+
+    // The transfer's line in a form, to the front of out; the bytes past it stay, and on a refusal all of them.
+    pub fn save(self, form: u8, out: &mut [u8]) -> Saved
+        ensures { λ r. ⌜ Save self form (now (out .entry)) r (now (out .exit)) ⌝ }
+    {
+        let asked = form as u32;
+        if (asked == FORM) & (out.len() < ROOM) {
+            return saves::unsaved(Refusal::Length);
+        }
+        if asked != FORM {
+            return saves::unsaved(Refusal::Unlisted);
+        }
+        if lent::formed(self) {
+            let t = lent::state_of(self);
+            return saves::told(saved::save(t, out));
+        }
+        saves::unsaved(Refusal::Rules)
+    }
+
+    // The transfer that a line saves; on a refusal the state before START.
+    pub fn restore(line: &[u8]) -> Step
+        ensures { λ r. ⌜ r ≡ restoreOf (now (line .entry)) ⌝ }
+    {
+        let restored = saved::restore(line);
+        let t = restored.state;
+        let checked = restored.answer;
+        let state = lent::shown(t);
+        let answer = saves::checked_number(checked);
+        Step { state, answer }
     }
 }
