@@ -25,8 +25,12 @@ pub mod ReplyRefusals
 pub mod ReplyRuns
 pub mod ReplySteps
 pub mod Rows
+mod SaveCalls
+pub mod SaveFace
+pub mod Saves
 pub mod StepRefusals
 pub mod Steps
+mod Swapped
 pub mod Text
 pub mod Times
 pub mod Total

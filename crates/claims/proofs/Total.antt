@@ -2,6 +2,7 @@
 -- source, and holds of all of them. Assumes nothing.
 pub mod Frames
 pub mod Transfer
+pub mod Saved
 pub mod Write
 pub mod Reply
 pub mod Text
@@ -11,6 +12,7 @@ pub mod Ports
 pub record Total : Type 2 where
   pub frames : Frames.Frames
   pub transfer : Transfer.Transfer
+  pub saved : Saved.Saved
   pub write : Write.Write
   pub reply : Reply.Reply
   pub text : Text.Text
@@ -18,4 +20,4 @@ pub record Total : Type 2 where
   pub ports : Ports.Ports
 
 pub total : Total
-total = record { frames = Frames.frames; transfer = Transfer.transfer; write = Write.write; reply = Reply.reply; text = Text.text; links = Links.links; ports = Ports.ports }
+total = record { frames = Frames.frames; transfer = Transfer.transfer; saved = Saved.saved; write = Write.write; reply = Reply.reply; text = Text.text; links = Links.links; ports = Ports.ports }

@@ -2,6 +2,7 @@
 -- The promises are those generated from the sources. Assumes nothing.
 pub mod Frames
 pub mod Transfer
+pub mod Saved
 pub mod Write
 pub mod Reply
 pub mod Text
@@ -14,6 +15,7 @@ pub mod Ports
 pub record Unique : Type 2 where
   pub frames : Frames.Frames
   pub transfer : Transfer.Transfer
+  pub saved : Saved.Saved
   pub write : Write.Write
   pub reply : Reply.Reply
   pub text : Text.Text
@@ -21,4 +23,4 @@ pub record Unique : Type 2 where
   pub ports : Ports.Ports
 
 pub unique : Unique
-unique = record { frames = Frames.frames; transfer = Transfer.transfer; write = Write.write; reply = Reply.reply; text = Text.text; links = Links.links; ports = Ports.ports }
+unique = record { frames = Frames.frames; transfer = Transfer.transfer; saved = Saved.saved; write = Write.write; reply = Reply.reply; text = Text.text; links = Links.links; ports = Ports.ports }

@@ -3,3 +3,4 @@ pub mod Causes
 pub mod Links
 pub mod LinkFace
 pub mod PortLedger
+pub mod Swaps
