@@ -8,22 +8,22 @@
 #include "check.h"
 #include "steps_draw.h"
 #include "steps_face.h"
+#include "steps_left.h"
 #include "steps_reach.h"
 
 #include <stdio.h>
-#include <string.h>
 
-enum { MOST_LEFT = 2000, WALKS = 200000, NOISES = 500000, LONGEST = 200 };
+enum { WALKS = 200000, NOISES = 500000, LONGEST = 200 };
 
 static struct sending sent;
 static const struct request other = {8, 16, 4, 2};
 static unsigned long tried[2]; /* lent transfers, by whether calls leave them */
 static unsigned long failures;
 
-static void judge(const struct sonerwal_transfer *s, bool left, struct model *t, enum call call)
+static void judge(const struct sonerwal_transfer *s, bool is_left, struct model *t, enum call call)
 {
-	tried[left]++;
-	if (left) {
+	tried[is_left]++;
+	if (is_left) {
 		struct sides both = {*s, *t};
 		draw_sending(&sent, queue_length(t));
 		failures += !sides_agree(&both, call, &other, &sent);
@@ -32,69 +32,22 @@ static void judge(const struct sonerwal_transfer *s, bool left, struct model *t,
 	}
 }
 
-/* ---- Every transfer that calls leave of one request */
+/* ---- All that lie around the transfers that calls leave of one request */
 
-static struct model left[MOST_LEFT];
-static size_t left_count;
+static struct left left;
 
-static bool same(const struct sonerwal_transfer *a, const struct sonerwal_transfer *b)
-{
-	return memcmp(a, b, sizeof *a) == 0;
-}
+static unsigned long all_left;
 
-/* The place of a transfer among those left, or their count. A transfer says all that the queue holds. */
-static size_t place_of(const struct sonerwal_transfer *s)
-{
-	size_t i = 0;
-	while (i < left_count) {
-		struct sonerwal_transfer shown = queue_shown(&left[i]);
-		if (same(&shown, s)) {
-			break;
-		}
-		i++;
-	}
-	return i;
-}
-
-static void leave(const struct model *t)
-{
-	struct sonerwal_transfer shown = queue_shown(t);
-	size_t at = place_of(&shown);
-	if (at == left_count && left_count < MOST_LEFT) {
-		left[left_count++] = *t;
-	}
-	failures += memcmp(left[at].ends, t->ends, t->waiting * sizeof *t->ends) != 0;
-}
-
-/* START only begins another: what it leaves is a request's first transfer. */
-static void leave_all(const struct request *q)
-{
-	struct model first = {.running = false};
-	queue_call(&first, START, q, NULL, NULL);
-	left_count = 0;
-	leave(&first);
-	for (size_t i = 0; i < left_count; i++) {
-		for (int call = FRAME; call <= CANCEL; call++) {
-			struct model t = left[i];
-			queue_call(&t, (enum call)call, NULL, NULL, NULL);
-			leave(&t);
-		}
-	}
-	check(left_count < MOST_LEFT, "more transfers than there is room for");
-}
-
-/* ---- All that lie around them */
-
-static void lend_around(struct sonerwal_transfer *s)
+static void lend_around(const struct sonerwal_transfer *s)
 {
 	static unsigned turn;
 	struct model t;
-	size_t at = place_of(s);
-	bool is_left = at < left_count;
+	size_t at = left_place(&left, s);
+	bool is_left = at < left.count;
 	enum call call = (enum call)(turn++ % CALLS);
 	if (is_left) {
 		for (int each = 0; each < CALLS; each++) {
-			judge(s, true, &left[at], (enum call)each);
+			judge(s, true, &left.of[at], (enum call)each);
 		}
 	} else {
 		judge(s, false, NULL, call);
@@ -102,49 +55,18 @@ static void lend_around(struct sonerwal_transfer *s)
 	failures += reached(s, &t) != is_left;
 }
 
-static void lend_flags(struct sonerwal_transfer *s)
-{
-	for (s->phase = 0; s->phase <= SONERWAL_PHASE_ENDED + 1; s->phase++) {
-		for (s->sent = 0; s->sent <= 2; s->sent++) {
-			for (s->zero2 = 0; s->zero2 <= 1; s->zero2++) {
-				lend_around(s);
-			}
-		}
-	}
-}
-
-/* The numbers that a request's transfers have, and the ones beside these; below 0 they are the largest. */
 static void lend_box(const struct request *q)
 {
-	uint32_t end = q->b + q->n, frames = (q->n + q->m - 1) / q->m;
-	struct sonerwal_transfer s = {.offset = q->b, .count = q->n, .size = q->m, .resends = q->r};
-	leave_all(q);
-	for (s.read = q->b - 1; s.read != end + 2; s.read++) {
-		for (s.balance = q->b - 1; s.balance != end + 2; s.balance++) {
-			for (s.unanswered = 0; s.unanswered <= frames + 1; s.unanswered++) {
-				for (s.used = 0; s.used <= q->r + 1; s.used++) {
-					lend_flags(&s);
-				}
-			}
-		}
-	}
+	check(leave_all(&left, q), "more transfers than there is room for, or two queues that one transfer shows");
+	all_left += left.count;
+	each_around(q, lend_around);
 }
 
-/* 01 READ.16: those of small requests, at both ends of the range, with frames that fill their size and that don't */
+/* 01 READ.16 */
 static void boxes(void)
 {
-	static const uint32_t counts[] = {1, 4, 5, 9, 12};
-	unsigned long all = 0;
-	for (size_t i = 0; i < sizeof counts / sizeof *counts; i++) {
-		for (uint32_t r = 0; r <= 2; r++) {
-			struct request low = {0, counts[i], 4, r}, high = {UINT32_MAX - counts[i], counts[i], 8, r};
-			lend_box(&low);
-			all += left_count;
-			lend_box(&high);
-			all += left_count;
-		}
-	}
-	printf("%lu transfers that calls leave, among %lu lent\n", all, tried[0] + tried[1]);
+	each_small(lend_box);
+	printf("%lu transfers that calls leave, among %lu lent\n", all_left, tried[0] + tried[1]);
 	check(failures == 0, "%lu of these", failures);
 }
 

@@ -1,6 +1,6 @@
 /*
- * Drives the fuzz target where libFuzzer can't be had: inputs that are noise, frames that begin well with a few bytes off, and calls that
- * a transfer, a link, a port, a write or a reply takes.
+ * Drives the fuzz target where libFuzzer can't be had: inputs that are noise, frames that begin well with a few bytes off, calls that
+ * a transfer, a link, a port, a write or a reply takes, and saved lines with a few bytes off.
  *
  * usage: driver RUNS
  */
@@ -132,13 +132,25 @@ static size_t make_reply(uint8_t *bytes)
 	return len;
 }
 
+static size_t make_saved(uint8_t *bytes)
+{
+	static const char letters[] = "0123456789\t\nrunewdailo";
+	static const char saved[] = "1\t100\t50\t8\t3\t140\t116\t3\t1\t2\trun";
+	bytes[0] = 10;
+	memcpy(bytes + 1, saved, sizeof saved - 1);
+	for (uint64_t off = below(4); off > 0; off--) {
+		bytes[1 + below(sizeof saved - 1)] = (uint8_t)letters[below(sizeof letters - 1)];
+	}
+	return sizeof saved - (below(8) ? 0 : below(sizeof saved));
+}
+
 static size_t make(uint8_t *bytes)
 {
 	for (size_t i = 0; i < LONGEST; i++) {
 		bytes[i] = (uint8_t)below(256);
 	}
 	size_t len = length();
-	switch (below(11)) {
+	switch (below(12)) {
 	case 0: len = make_open(bytes); break;
 	case 1: len = make_data(bytes); break;
 	case 2: len = make_transfer(bytes); break;
@@ -146,6 +158,7 @@ static size_t make(uint8_t *bytes)
 	case 4: len = make_port(bytes); break;
 	case 5: len = make_write(bytes); break;
 	case 6: len = make_reply(bytes); break;
+	case 7: len = make_saved(bytes); break;
 	default: break;
 	}
 	return len < LONGEST ? len : LONGEST;

@@ -16,6 +16,9 @@ uint64_t number(struct input *in, unsigned bytes);
 /* As many bytes as a struct has, in the order of the input. */
 void fill(struct input *in, void *to, size_t len);
 
+/* The rest of the input, or as much as there is room for; gives how much. */
+size_t rest(struct input *in, uint8_t *to);
+
 /* Ends the run if something isn't as it should be. */
 void require(int good, const char *what);
 
@@ -28,5 +31,11 @@ void try_link(struct input *in);
 void try_port(struct input *in);
 void try_writes(struct input *in);
 void try_replies(struct input *in);
+
+/* Saved transfers, in saves.c: a line, a transfer, and a transfer that some calls led to. */
+struct sonerwal_transfer;
+void try_restore(struct input *in);
+void try_save(struct input *in);
+void try_saved(const struct sonerwal_transfer *s, uint8_t form, size_t room);
 
 #endif

@@ -83,6 +83,7 @@ void try_transfer(struct input *in)
 	do {
 		uint64_t call = number(in, 1) % (CALLS + 2);
 		require(sonerwal_transfer_length(s) == plain_transfer_length(s), "transfer: another length");
+		try_saved(&s, SONERWAL_SAVED_FORM, SONERWAL_SAVED_ROOM);
 		if (call == CALLS) {
 			s = try_start(s, in);
 		} else if (call == CALLS + 1) {

@@ -1,7 +1,8 @@
 /*
  * One input is one of the frame calls of libsonerwal.a (a write's in write_frames.c), or calls on a transfer or a link (machines.c), on a port
- * (port.c), on a write or a reply (writes.c): its first byte says which, the rest are its fields and bytes. The plain coder makes the same call on
- * a copy, and the answer and every lent byte and number must be the same; what was written must be read back.
+ * (port.c), on a write or a reply (writes.c), or one of the two of a saved transfer (saves.c): its first byte says which, the rest are its fields
+ * and bytes. The plain coder makes the same call on a copy, and the answer and every lent byte and number must be the same; what was written must
+ * be read back.
  */
 #include "../plain.h"
 #include "input.h"
@@ -37,8 +38,7 @@ void fill(struct input *in, void *to, size_t len)
 	}
 }
 
-/* The rest of the input, or as much as there is room for. */
-static size_t rest(struct input *in, uint8_t *to)
+size_t rest(struct input *in, uint8_t *to)
 {
 	size_t len = (size_t)(in->end - in->at);
 	len = len < ROOM ? len : ROOM;
@@ -171,7 +171,7 @@ int LLVMFuzzerTestOneInput(const uint8_t *bytes, size_t len);
 int LLVMFuzzerTestOneInput(const uint8_t *bytes, size_t len)
 {
 	static void (*const calls[])(struct input *) = {try_open_read, try_open_write, try_data_read, try_data_write, try_transfer, try_link,
-	                                               try_port, try_write_frame, try_writes, try_replies};
+	                                               try_port, try_write_frame, try_writes, try_replies, try_restore, try_save};
 	struct input in = {bytes, bytes + len};
 	calls[number(&in, 1) % (sizeof calls / sizeof *calls)](&in);
 	return 0;
