@@ -1,8 +1,8 @@
 /*
  * A recorder board in small. A camera shot a stereo pair, and a host reads both images from a target port with two phys, a read
  * transfer for each. Phy 0 is wired to an expander, of which the two links (XL) of the connection are shown, phy 1 to the host.
- * The wire loses frames, spoils some, which the host NAKs, and is late with answers, by a seeded rule. Then the host writes a
- * calibration file. Time is in microseconds.
+ * The wire loses frames, spoils some, which the host NAKs, and is late with answers, by a seeded rule. After the first NAK, with answers
+ * still due, the board's firmware is swapped. Then the host writes a calibration file. Time is in microseconds.
  *
  * The day of the pair is told twice, by the same seed: with Sonerwal's transfer, and with the rule of the firmware before it,
  * which counted unanswered frames modulo sixteen.
@@ -11,6 +11,7 @@
 
 #include "board_expander.h"
 #include "board_old.h"
+#include "board_swap.h"
 #include "board_tell.h"
 #include "board_upload.h"
 #include "board_wire.h"
@@ -40,6 +41,7 @@ static struct sonerwal_request list[SONERWAL_SLOTS];
 static struct sonerwal_port port;
 static bool opening[PHYS], sending[PHYS], refused_once;
 static bool old_rule; /* the firmware before */
+static bool swapped;
 
 /* ---- The two rules */
 
@@ -266,6 +268,22 @@ static void round_of_frames(void)
 	carry();
 }
 
+/* 02 a.1: We swap board firmware while a host waits.
+ * Both images are on their way. The transfers alone go through the swap here: the port, whose list is empty since every frame went, stays. */
+static void swap_firmware(void)
+{
+	struct kept kept[STREAMS];
+
+	for (unsigned i = 0; i < STREAMS; i++) {
+		save(&kept[i], streams[i].name, &streams[i].transfer);
+	}
+	now += SWAP_MICROSECONDS;
+	for (unsigned i = 0; i < STREAMS; i++) {
+		restore(&kept[i], streams[i].name, &streams[i].transfer);
+	}
+	swapped = true;
+}
+
 /* What came back for the frames that went; a frame without an answer ends in the ACK/NAK timeout. */
 static void hear_answers(struct stream *s)
 {
@@ -276,6 +294,9 @@ static void hear_answers(struct stream *s)
 		line(s->name, s->answer[i] == ACK ? "ACK" : "NAK");
 		printf("%s; unanswered %u\n", sonerwal_answer_name(answer), unanswered_by(s));
 		now++;
+		if (answer == SONERWAL_DRAIN && !old_rule && !swapped) {
+			swap_firmware();
+		}
 	}
 	if (s->burst > 0 && !is_finished(s) && (s->late || s->answers < s->burst) && answer != SONERWAL_RETRY) {
 		now += 1000;
