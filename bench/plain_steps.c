@@ -2,8 +2,6 @@
 
 #include "plain_data.h"
 
-#include <stdbool.h>
-
 /* Document 01, 'Read transfer'. */
 
 /* ---- The test of a lent state */
@@ -256,6 +254,11 @@ struct sonerwal_transfer_step plain_transfer_next(struct sonerwal_transfer s, ui
 uint32_t plain_transfer_length(struct sonerwal_transfer s)
 {
 	return frame_refusal(&s) == SONERWAL_OK ? frame_length(&s) : 0;
+}
+
+bool plain_transfer_taken(const struct sonerwal_transfer *s)
+{
+	return taken(s);
 }
 
 struct sonerwal_transfer_step plain_transfer_crossing(struct sonerwal_transfer s)

@@ -7,6 +7,8 @@
 
 #include "sonerwal.h"
 
+#include <stdbool.h>
+
 struct sonerwal_transfer_step plain_transfer_start(struct sonerwal_transfer s, uint32_t offset, uint32_t count,
                                                    uint32_t size, uint32_t resends);
 struct sonerwal_transfer_step plain_transfer_frame(struct sonerwal_transfer s);
@@ -20,6 +22,9 @@ struct sonerwal_transfer_step plain_transfer_next(struct sonerwal_transfer s, ui
                                                   uint32_t hashed_source, uint16_t tag, const uint8_t *body,
                                                   size_t body_len, uint8_t *frame, size_t frame_len);
 uint32_t plain_transfer_length(struct sonerwal_transfer s);
+
+/* Whether the state is that before START, or some START and calls after it leave it. */
+bool plain_transfer_taken(const struct sonerwal_transfer *s);
 
 /* What crossing costs: the state goes in and comes back, and nothing is looked at. */
 struct sonerwal_transfer_step plain_transfer_crossing(struct sonerwal_transfer s);
