@@ -1,5 +1,6 @@
 // Document 02, request a): a transfer as one line of text, which is read back after a swap of firmware. Form 1 is the only one so far.
 ghost use mathlib.Core.Path.{_≡_};
+ghost use mathlib.Core.Bool.{false};
 ghost use Rattle.laws.specs.Names as names;
 ghost use Rattle.lines.specs.Puts.{Put};
 ghost use Rattle.saved.specs.Saved.{newest, phaseWord, lineOf, phaseNamed, stateBy, restoreOf, Save};
@@ -58,6 +59,17 @@ pub const ROOM: usize = 69;
 // The largest number of a line.
 const LARGEST: u64 = 0xffffffff;
 
+// There are not ten, whatever was read.
+fn no_columns(numbers: [u32; 10]) -> Columns
+    ensures { λ r. ⌜ r .good ≡ false ⌝ }
+{
+    Columns {
+        good: false,
+        numbers,
+        next: 0,
+    }
+}
+
 // Reads the columns from tab to tab.
 fn read_columns(line: &[u8]) -> Columns
     ensures { λ r. ⌜ Columned (now (line .entry)) r ⌝ }
@@ -68,19 +80,11 @@ fn read_columns(line: &[u8]) -> Columns
     while i < 10 {
         let end = lines::place_from(b'\t', line, at);
         if end == line.len() {
-            return Columns {
-                good: false,
-                numbers,
-                next: 0,
-            };
+            return no_columns(numbers);
         }
         let number = lines::read_number(&line[at..end], LARGEST);
         let Number::Value(n) = number else {
-            return Columns {
-                good: false,
-                numbers,
-                next: 0,
-            };
+            return no_columns(numbers);
         };
         numbers[i] = n as u32;
         at = end + 1;

@@ -22,10 +22,15 @@ loop-holds c = walk-first _ _ refl
 place-from-requires : tie.Need-place-from-requires Inv-loop μ-loop
 place-from-requires c κs = tt
 
+no-columns-requires : tie.Need-no-columns-requires Inv-loop μ-loop
+no-columns-requires c κs = search needs
+
 returns : tie.Need-returns Inv-loop μ-loop
 returns c =
-    let in-loop = c .before .before in
-    walk-short (in-loop .before .loop .inv) (c .before .place-from .ensures) _ refl (c .if1 .taken) (in-loop .loop-test .taken)
+    let at-then = c .before in
+    let at-place-from = at-then .before in
+    let in-loop = at-place-from .before in
+    walk-short (in-loop .before .loop .inv) (at-place-from .place-from .ensures) _ (c .no-columns .ensures) (at-then .if1 .taken) (in-loop .loop-test .taken)
 
 sub-read-number : tie.Need-sub-read-number Inv-loop μ-loop
 sub-read-number c = end-behind (c .before .before .before .loop .inv) (c .before .place-from .ensures)
@@ -45,14 +50,18 @@ enum-known-number c = search needs
 enum-told : tie.Need-enum-told Inv-loop μ-loop
 enum-told c = search needs
 
+no-columns-requires-2 : tie.Need-no-columns-requires-2 Inv-loop μ-loop
+no-columns-requires-2 c κs = search needs
+
 returns-2 : tie.Need-returns-2 Inv-loop μ-loop
 returns-2 c =
-    let at-read-number = c .before .before in
+    let at-told = c .before in
+    let at-read-number = at-told .before .before in
     let at-else = at-read-number .before .before in
     let at-place-from = at-else .before in
     let in-loop = at-place-from .before in
-    let none = sym (at-read-number .read-number .ensures) ∙ c .enum-told .given .1 in
-    walk-other (in-loop .before .loop .inv) (at-place-from .place-from .ensures) _ refl (at-else .if1 .left) (in-loop .loop-test .taken) none
+    let none = sym (at-read-number .read-number .ensures) ∙ at-told .enum-told .given .1 in
+    walk-other (in-loop .before .loop .inv) (at-place-from .place-from .ensures) _ (c .no-columns2 .ensures) (at-else .if1 .left) (in-loop .loop-test .taken) none
 
 cast-numbers : tie.Need-cast-numbers Inv-loop μ-loop
 cast-numbers c =
@@ -98,6 +107,7 @@ read-columns-spec =
     μ-loop
     loop-holds
     place-from-requires
+    no-columns-requires
     returns
     sub-read-number
     part-read-number-start
@@ -105,6 +115,7 @@ read-columns-spec =
     read-number-requires
     enum-known-number
     enum-told
+    no-columns-requires-2
     returns-2
     cast-numbers
     mul-numbers
