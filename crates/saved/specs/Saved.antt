@@ -144,6 +144,7 @@ taken form line = shaped form line && keepsRules (boundOf form) (stateOf line)
 
 -- ---- the calls
 
+-- 01 REFUSAL.2: line isn't one listed here
 -- 02 a.5: Refusals: any other line is 2.
 abbrev pub restoreCauses : List ℕ → List Cause
 restoreCauses line = (Refusal.Unlisted when not (taken 1 line)) ∷ []
@@ -158,6 +159,7 @@ unrestored k = record { answer = Checked.Refused k; state = unstarted }
 unfoldable pub restoreOf : List ℕ → Restored
 restoreOf line = refuse unrestored (restoreCauses line) (restored (stateOf line))
 
+-- 01 REFUSAL.1 01 REFUSAL.3 01 REFUSAL.11
 -- what `save` is refused for: the output has no room for every line of the form, or the state breaks the rules of the calls
 abbrev pub saveCauses : ℕ → Transfer → List ℕ → List Cause
 saveCauses form s out =

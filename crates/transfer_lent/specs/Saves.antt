@@ -25,6 +25,7 @@ abbrev pub checkedNumber : Checked → ℕ
 checkedNumber Checked.Passed = 0
 checkedNumber (Checked.Refused k) = numberOf k
 
+-- 01 REFUSAL.1 01 REFUSAL.2 01 REFUSAL.3 01 REFUSAL.11
 -- a form that is not written has no room to ask for
 abbrev pub saveCauses : State → ℕ → List ℕ → List Cause
 saveCauses s form out =
