@@ -1,12 +1,14 @@
 // Text by lines: decimal numbers, fields between tabs, and bytes put one behind the other. The largest number and the longest line
 // are arguments.
+#![tactic(auto)]
+
 ghost use Rattle.std.specs.Prelude.{◌≡◌, ◌+◌, ◌<◌, ◌≤◌, cond, [], ◌∷◌, eqb, length, drop};
 ghost use Rattle.lines.specs.Numbers.{digit_of, read_number, decimal};
 ghost use Rattle.lines.specs.Parts.{tab, field_count, field_at, place_from, behind_tabs};
 ghost use Rattle.lines.specs.Parts as parts;
 ghost use Rattle.lines.specs.Puts.{Put};
 
-#[derive(Drop)]
+#[derive(Clone, Copy)]
 pub enum Number {
     Value(u64),
     // The bytes write no number, or one that is too large.

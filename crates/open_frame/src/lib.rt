@@ -1,4 +1,6 @@
 // Document 01, 'OPEN address frame': the frame's fields, its reader and its writer, the wait value and priority.
+#![tactic(auto)]
+
 ghost use Rattle.std.specs.Prelude.{◌≡◌, true, ◌+◌, ◌/◌, ◌%◌, ◌<◌, length};
 ghost use Rattle.refusals.specs.Causes.{Wrote};
 ghost use Rattle.open_frame.specs.Open.{head_of, head_listed, read_open, open_bytes, write_causes};
@@ -10,7 +12,7 @@ use refusals::{Refusal, Written};
 
 // The fields that a request for a connection has too.
 #[repr(C)]
-#[derive(Drop)]
+#[derive(Clone, Copy)]
 pub struct Head {
     // 1 for an initiator, else 0.
     pub initiator: u8,
@@ -30,23 +32,23 @@ pub struct Head {
 // 01 FORM.7: Two tuple structs for AWT and PBC, the source's own counters, carried by requests and OPEN frames.
 // How often the pathway was blocked.
 #[repr(C)]
-#[derive(Drop)]
+#[derive(Clone, Copy)]
 pub struct Pbc(pub u8);
 
 // How long the request has waited, as a wait value.
 #[repr(C)]
-#[derive(Drop)]
+#[derive(Clone, Copy)]
 pub struct Awt(pub u16);
 
 #[repr(C)]
-#[derive(Drop)]
+#[derive(Clone, Copy)]
 pub struct OpenFrame {
     pub head: Head,
     pub pbc: Pbc,
     pub awt: Awt,
 }
 
-#[derive(Drop)]
+#[derive(Clone, Copy)]
 pub enum OpenRead {
     Frame(OpenFrame),
     Refused(Refusal),

@@ -1,4 +1,6 @@
 // An OPEN address frame as C lends it: numbers alone, no padding, and what is left over of its bytes has a name and is zero.
+#![tactic(auto)]
+
 ghost use Rattle.std.specs.Prelude.{◌≡◌};
 ghost use Rattle.open_lent.specs.Lent as lent;
 ghost use Rattle.open_lent.specs.Lent.{frame_of, is_clear};
@@ -6,7 +8,7 @@ ghost use Rattle.open_lent.specs.Lent.{frame_of, is_clear};
 use open_frame::{Awt, Head, OpenFrame, Pbc};
 
 #[repr(C)]
-#[derive(Drop)]
+#[derive(Clone, Copy)]
 pub struct Open {
     pub destination: u64,
     pub source: u64,

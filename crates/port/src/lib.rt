@@ -1,5 +1,7 @@
 // Document 01, 'Port': the ten calls over the list of 32 records that the caller lends. Each looks at every record once, loads
 // one, and leaves every record as its core says.
+#![tactic(auto)]
+
 mod asks;
 mod leaves;
 mod scans;
@@ -12,7 +14,7 @@ use port_parts::{Pick, Port, Request};
 use port_rows::{Answer, Confirmed, Failure, Key, Report, Room, Submission, Withdrawn};
 
 // What a call gives: its answer, and the port after it.
-#[derive(Drop)]
+#[derive(Clone, Copy)]
 pub struct Stepped {
     pub answer: Answer,
     pub port: Port,
@@ -20,53 +22,53 @@ pub struct Stepped {
 
 // What a choose gives.
 #[repr(C)]
-#[derive(Drop)]
+#[derive(Clone, Copy)]
 pub struct Time {
     pub now: u64,
 }
 
 // What a call about a phy looks for.
-#[derive(Drop)]
+#[derive(Clone, Copy)]
 struct Sought {
     port: Port,
     phy: u8,
 }
 
 // Whether the rules are kept, and the slot that was looked for.
-#[derive(Drop)]
+#[derive(Clone, Copy)]
 struct Named {
     kept: bool,
     slot: u8,
 }
 
 // What a submit looks for, and finds.
-#[derive(Drop)]
+#[derive(Clone, Copy)]
 struct Seeking {
     port: Port,
     head: Head,
 }
 
-#[derive(Drop)]
+#[derive(Clone, Copy)]
 struct Place {
     room: Room,
     kept: bool,
 }
 
 // What a cancel looks for.
-#[derive(Drop)]
+#[derive(Clone, Copy)]
 struct Keyed {
     port: Port,
     key: Key,
 }
 
 // What a choose looks for, and finds.
-#[derive(Drop)]
+#[derive(Clone, Copy)]
 struct Choosing {
     port: Port,
     now: u64,
 }
 
-#[derive(Drop)]
+#[derive(Clone, Copy)]
 struct Choice {
     kept: bool,
     pick: Pick,

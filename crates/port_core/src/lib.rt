@@ -1,5 +1,7 @@
 // Document 01, 'Port': the ten calls, each on the record that it is about and on numbers. The crate above finds the record in the
 // lent list and stores it there.
+#![tactic(auto)]
+
 mod answers;
 mod cancels;
 mod chooses;

@@ -1,5 +1,7 @@
 // The port as C lends it: numbers alone, no padding, and what is left over of its bytes has a name and is zero; what its calls are
 // given, and what they answer.
+#![tactic(auto)]
+
 mod numbers;
 
 ghost use Rattle.std.specs.Prelude.{◌≡◌};
@@ -14,7 +16,7 @@ use port_rows::{Confirmed, Failure, Key, Report, Submission, Withdrawn, Word};
 
 // A phy of the port; all zeros is a disabled one that a port has no room for.
 #[repr(C)]
-#[derive(Drop)]
+#[derive(Clone, Copy)]
 pub struct Phy {
     // Whom it is connected to, and below its protocol; zeros if it isn't.
     pub destination: u64,
@@ -29,7 +31,7 @@ pub struct Phy {
 
 // All zeros is a port before its setup.
 #[repr(C)]
-#[derive(Drop)]
+#[derive(Clone, Copy)]
 pub struct Port {
     // The time of the last call.
     pub last: u64,
@@ -44,7 +46,7 @@ pub struct Port {
 
 // A call's answer, and the port after it.
 #[repr(C)]
-#[derive(Drop)]
+#[derive(Clone, Copy)]
 pub struct PortStep {
     pub port: Port,
     // The head of the request that is named; pbc and awt are Open's alone; else zeros.

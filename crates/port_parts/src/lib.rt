@@ -1,4 +1,6 @@
 // Document 01, 'Port': phys and requests, the choice of a request and a phy, the reasons of Open Failed, and the loss timer.
+#![tactic(auto)]
+
 mod choice;
 mod parts;
 pub mod phy_stage;
@@ -38,7 +40,7 @@ pub const SET: u64 = 1;
 
 // A phy of the port. Lent states can hold any numbers; the rules of a state say which are taken.
 #[repr(C)]
-#[derive(Drop)]
+#[derive(Clone, Copy)]
 pub struct Phy {
     // One of phy_stage.
     pub stage: u8,
@@ -51,7 +53,7 @@ pub struct Phy {
 
 // A time that may not have come.
 #[repr(C)]
-#[derive(Drop)]
+#[derive(Clone, Copy)]
 pub struct Stamp {
     // SET once it came, else UNSET; as wide as the time, so that a lent stamp has no padding.
     pub set: u64,
@@ -61,7 +63,7 @@ pub struct Stamp {
 
 // A record of the list that the caller lends: 88 bytes without padding, so that each of them is promised.
 #[repr(C)]
-#[derive(Drop)]
+#[derive(Clone, Copy)]
 pub struct Request {
     // One of request_stage.
     pub stage: u8,
@@ -85,7 +87,7 @@ pub struct Request {
 }
 
 #[repr(C)]
-#[derive(Drop)]
+#[derive(Clone, Copy)]
 pub struct Port {
     // How many phys it has.
     pub count: u8,
@@ -97,7 +99,7 @@ pub struct Port {
 }
 
 // The phys that are free for each step toward a peer, phy k at bit k.
-#[derive(Drop)]
+#[derive(Clone, Copy)]
 pub struct Sets {
     pub sends: u8,
     pub opens: u8,
@@ -105,7 +107,7 @@ pub struct Sets {
 }
 
 // What can be done for a request, and the phy.
-#[derive(Drop)]
+#[derive(Clone, Copy)]
 pub struct Way {
     // One of step.
     pub step: u8,
@@ -113,7 +115,7 @@ pub struct Way {
 }
 
 // A way for the request at a slot, and when that was submitted.
-#[derive(Drop)]
+#[derive(Clone, Copy)]
 pub struct Pick {
     pub step: u8,
     pub phy: u8,
@@ -122,14 +124,14 @@ pub struct Pick {
 }
 
 // What choose asks of each request.
-#[derive(Drop)]
+#[derive(Clone, Copy)]
 pub struct Asked {
     pub phys: [Phy; 8],
     pub now: u64,
 }
 
 // Why an open failed: the OPEN_REJECT kinds, Open Time Out and Break Received.
-#[derive(Drop)]
+#[derive(Clone, Copy)]
 pub enum Reason {
     NoDestination,
     BadDestination,

@@ -1,10 +1,12 @@
 // Document 01, 'Port': what its ten calls are given, find, answer and leave.
+#![tactic(auto)]
+
 use open_frame::{Head, OpenFrame};
 use port_parts::{Port, Reason, Request, Stamp};
 use refusals::Refusal;
 
 // What a call answers, in document 01's words.
-#[derive(Drop)]
+#[derive(Clone, Copy)]
 pub enum Word {
     // The call was taken, and says nothing of a request.
     Taken,
@@ -33,7 +35,7 @@ pub enum Word {
     Refused(Refusal),
 }
 
-#[derive(Drop)]
+#[derive(Clone, Copy)]
 pub struct Answer {
     pub word: Word,
     // The request that it names: its slot, 32 if it names none.
@@ -45,7 +47,7 @@ pub struct Answer {
 }
 
 // A loss timer that changes.
-#[derive(Drop)]
+#[derive(Clone, Copy)]
 pub struct Loss {
     pub change: bool,
     // Every SSP request to it gets the timer.
@@ -54,7 +56,7 @@ pub struct Loss {
 }
 
 // What a call leaves: the port, the answer, the record at the answer's slot, and a loss timer.
-#[derive(Drop)]
+#[derive(Clone, Copy)]
 pub struct Done {
     pub port: Port,
     pub answer: Answer,
@@ -65,7 +67,7 @@ pub struct Done {
 }
 
 // What submit finds in the list.
-#[derive(Drop)]
+#[derive(Clone, Copy)]
 pub struct Room {
     // The loss timer of its destination; first, so that a copy of the whole has no gap before it.
     pub loss: Stamp,
@@ -77,14 +79,14 @@ pub struct Room {
 
 // What a submit gives.
 #[repr(C)]
-#[derive(Drop)]
+#[derive(Clone, Copy)]
 pub struct Submission {
     pub head: Head,
     pub now: u64,
 }
 
 #[repr(C)]
-#[derive(Drop)]
+#[derive(Clone, Copy)]
 pub struct Key {
     pub destination: u64,
     pub protocol: u8,
@@ -93,7 +95,7 @@ pub struct Key {
 
 // What a cancel gives.
 #[repr(C)]
-#[derive(Drop)]
+#[derive(Clone, Copy)]
 pub struct Withdrawn {
     pub key: Key,
     pub now: u64,
@@ -101,7 +103,7 @@ pub struct Withdrawn {
 
 // What a call about a phy gives.
 #[repr(C)]
-#[derive(Drop)]
+#[derive(Clone, Copy)]
 pub struct Confirmed {
     pub phy: u8,
     pub now: u64,
@@ -109,7 +111,7 @@ pub struct Confirmed {
 
 // What an Open Failed gives.
 #[repr(C)]
-#[derive(Drop)]
+#[derive(Clone, Copy)]
 pub struct Failure {
     pub phy: u8,
     // The reason's number.
@@ -119,7 +121,7 @@ pub struct Failure {
 
 // What a frame status gives.
 #[repr(C)]
-#[derive(Drop)]
+#[derive(Clone, Copy)]
 pub struct Report {
     pub phy: u8,
     pub status: u8,

@@ -1,4 +1,6 @@
 // Document 01, 'Port': the rules of a lent state, as one test of the port, one of each record, and one of each pair of records.
+#![tactic(auto)]
+
 ghost use Rattle.std.specs.Prelude.{◌≡◌};
 ghost use Rattle.port_rules.specs.Rules.{phy_rule, port_rule, paired_at, paired, present_rule, request_rule, apart_step, compared_of};
 ghost use Rattle.port_rules.specs.Rules as rules;
@@ -9,7 +11,7 @@ use port_parts::{
 };
 
 // A request that is held against those behind it.
-#[derive(Drop)]
+#[derive(Clone, Copy)]
 pub struct Compared {
     pub head: Head,
     pub loss: Stamp,

@@ -1,5 +1,7 @@
 // `readrun` reads calls on a read transfer from standard input, a line each, and writes a line for each. What it says and when is
 // `runs::feed`'s; here are only the reads and the writes. What fails is said on standard error (crates/streams), and ends it.
+#![tactic(auto)]
+
 ghost use Rattle.std.specs.Prelude.{true, ◌≡◌, ◌≤◌, length};
 ghost use Rattle.io.specs.Counts.{IsPrefixLen};
 ghost use Rattle.runs.specs.Rows.{longest_row};
@@ -8,7 +10,7 @@ ghost use Rattle.runs.specs.Feed.{carry_of, after};
 use runs::Run;
 use streams::Got;
 
-#[derive(Drop)]
+#[derive(Clone, Copy)]
 struct Went {
     run: Run,
     // Whether the output is still taken.

@@ -1,5 +1,7 @@
 // Request c), the reply: RESPONSE and its retry. It ends reads as well as writes, and is retried whether or not transport layer retries are
 // on (002, ST_TTS2), so it has a state of its own, which goes in and comes back by value, with a method for each call; no bytes are here.
+#![tactic(auto)]
+
 ghost use Rattle.std.specs.Prelude.{◌≡◌};
 ghost use Rattle.reply.specs.Rules as rules;
 ghost use Rattle.reply.specs.Calls.{start, respond, ack, nak, timeout, lost, nexus, cancel, step_of};
@@ -9,7 +11,7 @@ use refusals::Refusal;
 mod rules;
 mod steps;
 
-#[derive(Drop)]
+#[derive(Clone, Copy)]
 pub enum Phase {
     // Before START.
     New,
@@ -26,7 +28,7 @@ pub enum Phase {
 }
 
 // What a call answers.
-#[derive(Drop)]
+#[derive(Clone, Copy)]
 pub enum Answer {
     // START was taken.
     Ok,
@@ -41,7 +43,7 @@ pub enum Answer {
     Refused(Refusal),
 }
 
-#[derive(Drop)]
+#[derive(Clone, Copy)]
 pub struct Reply {
     // R, the resends allowed.
     pub resends: u32,
@@ -50,7 +52,7 @@ pub struct Reply {
     pub phase: Phase,
 }
 
-#[derive(Drop)]
+#[derive(Clone, Copy)]
 pub struct Stepped {
     pub answer: Answer,
     pub state: Reply,

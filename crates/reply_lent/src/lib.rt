@@ -1,4 +1,6 @@
 // A reply as C lends it and gets it back: numbers alone, since C can lend any byte where Rattle has an enum.
+#![tactic(auto)]
+
 ghost use Rattle.std.specs.Prelude.{◌≡◌};
 ghost use Rattle.reply_lent.specs.Face.{start, ack, nak, timeout, lost, nexus, cancel, face_of, Responded};
 
@@ -9,7 +11,7 @@ pub mod numbers;
 
 // struct sonerwal_reply: the fields of `Reply`, with no padding between or behind them. All zeros is the state before START.
 #[repr(C)]
-#[derive(Drop)]
+#[derive(Clone, Copy)]
 pub struct State {
     pub resends: u32,
     pub used: u32,
@@ -23,7 +25,7 @@ pub struct State {
 
 // struct sonerwal_reply_step: the state after a call, and the number of its answer.
 #[repr(C)]
-#[derive(Drop)]
+#[derive(Clone, Copy)]
 pub struct Step {
     pub state: State,
     pub answer: u8,

@@ -1,5 +1,7 @@
 // Document 01, 'Read transfer': what `readrun` does between its read and its write. A line of input is a call on the transfer and
 // gives a line of output; input comes in blocks, which may end anywhere.
+#![tactic(auto)]
+
 ghost use Rattle.std.specs.Prelude.{◌≡◌, ◌∷◌, ◌++◌, ◌≤◌, length, take};
 ghost use Rattle.lines.specs.Numbers.{read_number, decimal};
 ghost use Rattle.lines.specs.Parts.{tab, field_at};
@@ -16,7 +18,7 @@ use refusals::Refusal;
 use transfer::{Answer, Stepped, Transfer};
 
 // What a line says.
-#[derive(Drop)]
+#[derive(Clone, Copy)]
 pub enum Command {
     Start { b: u32, n: u32, m: u32, r: u32 },
     Frame,
@@ -31,14 +33,14 @@ pub enum Command {
 }
 
 // A transfer, and where the next row goes.
-#[derive(Drop)]
+#[derive(Clone, Copy)]
 pub struct Taken {
     pub state: Transfer,
     pub place: usize,
 }
 
 // What is carried over from one block to the next.
-#[derive(Drop)]
+#[derive(Clone, Copy)]
 pub struct Run {
     // The lines that have ended.
     pub line: u64,
@@ -49,7 +51,7 @@ pub struct Run {
     pub state: Transfer,
 }
 
-#[derive(Drop)]
+#[derive(Clone, Copy)]
 pub struct Fed {
     pub run: Run,
     // The bytes of the block that were taken.

@@ -1,4 +1,6 @@
 // Document 02, request a): a transfer as one line of text, which is read back after a swap of firmware. Form 1 is the only one so far.
+#![tactic(auto)]
+
 ghost use Rattle.std.specs.Prelude.{◌≡◌, false};
 ghost use Rattle.laws.specs.Names as names;
 ghost use Rattle.lines.specs.Puts.{Put};
@@ -11,14 +13,14 @@ use lines::Number;
 use refusals::{Checked, Refusal};
 use transfer::{Phase, Transfer};
 
-#[derive(Drop)]
+#[derive(Clone, Copy)]
 pub struct Restored {
     pub answer: Checked,
     // On a refusal the state before START.
     pub state: Transfer,
 }
 
-#[derive(Drop)]
+#[derive(Clone, Copy)]
 pub struct Saved {
     pub answer: Checked,
     // The bytes of the line, 0 on a refusal.
@@ -26,14 +28,14 @@ pub struct Saved {
 }
 
 // What a field says of the phase.
-#[derive(Drop)]
+#[derive(Clone, Copy)]
 enum Named {
     Is(Phase),
     Not,
 }
 
 // The ten numbers in front of a line.
-#[derive(Drop)]
+#[derive(Clone, Copy)]
 struct Columns {
     // Whether they are there, each with a tab behind it.
     good: bool,
@@ -42,7 +44,7 @@ struct Columns {
     next: usize,
 }
 
-#[derive(Drop)]
+#[derive(Clone, Copy)]
 struct Line {
     // Whether the line has a saved form.
     shaped: bool,

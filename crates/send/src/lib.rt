@@ -1,4 +1,6 @@
 // Document 01, 'Read transfer': the next-frame call, which writes the DATA frame at the read offset.
+#![tactic(auto)]
+
 ghost use Rattle.std.specs.Prelude.{◌≡◌};
 ghost use Rattle.transfer.specs.Steps.{limit};
 ghost use Rattle.send.specs.Send.{changing_of, head_of, is_sent, is_done, Went};

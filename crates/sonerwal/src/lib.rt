@@ -1,5 +1,7 @@
 // What C calls, as include/sonerwal.h declares it, with a module for each machine: numbers, byte slices and plain structs, and 0, a refusal's
 // number or what happened as the answer. No enum and no bool crosses, since C can lend any byte.
+#![tactic(auto)]
+
 ghost use Rattle.std.specs.Prelude.{◌≡◌};
 ghost use Rattle.sonerwal.specs.Face as face;
 

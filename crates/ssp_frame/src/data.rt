@@ -7,7 +7,7 @@ use crate::header;
 use crate::header::Header;
 use refusals::{Refusal, Written};
 
-#[derive(Drop)]
+#[derive(Clone, Copy)]
 pub struct DataHead {
     // The hashed addresses, 24 bits each.
     pub destination: u32,
@@ -20,13 +20,13 @@ pub struct DataHead {
 }
 
 // The data stands behind the 24 header bytes, as many bytes as length says.
-#[derive(Drop)]
+#[derive(Clone, Copy)]
 pub struct DataFrame {
     pub head: DataHead,
     pub length: u16,
 }
 
-#[derive(Drop)]
+#[derive(Clone, Copy)]
 pub enum DataRead {
     Frame(DataFrame),
     Refused(Refusal),

@@ -7,7 +7,7 @@ use crate::header::Header;
 use crate::{data, header};
 use refusals::{Refusal, Written};
 
-#[derive(Drop)]
+#[derive(Clone, Copy)]
 pub struct OutHead {
     // The hashed addresses, 24 bits each.
     pub destination: u32,
@@ -21,13 +21,13 @@ pub struct OutHead {
 }
 
 // The data stands behind the 24 header bytes, as many bytes as length says.
-#[derive(Drop)]
+#[derive(Clone, Copy)]
 pub struct OutFrame {
     pub head: OutHead,
     pub length: u16,
 }
 
-#[derive(Drop)]
+#[derive(Clone, Copy)]
 pub enum OutRead {
     Frame(OutFrame),
     Refused(Refusal),

@@ -3,7 +3,7 @@ ghost use Rattle.std.specs.Prelude.{◌≡◌, ◌++◌, ◌≤◌, length, drop
 ghost use Rattle.wire.specs.Fields.{lay_bytes};
 ghost use Rattle.ssp_frame.specs.Header.{header_fields, header_of, is_blank};
 
-#[derive(Drop)]
+#[derive(Clone, Copy)]
 pub struct Header {
     // The frame's type.
     pub kind: u8,

@@ -1,5 +1,7 @@
 // Document 01, 'Read transfer', paragraph 'DATA frame': the header that SSP frames share, and DATA for reads on top of it. Beside
 // it the frames of a write: XFER_RDY, DATA for writes, and RESPONSE, which ends reads too.
+#![tactic(auto)]
+
 pub mod data;
 pub mod data_out;
 mod header;

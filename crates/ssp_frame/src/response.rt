@@ -10,7 +10,7 @@ use crate::header::Header;
 use crate::{data, header};
 use refusals::{Refusal, Written};
 
-#[derive(Drop)]
+#[derive(Clone, Copy)]
 pub struct ResponseHead {
     // The hashed addresses, 24 bits each.
     pub destination: u32,
@@ -24,20 +24,20 @@ pub struct ResponseHead {
 }
 
 // The data stands behind the first 48 bytes, as many bytes as length says.
-#[derive(Drop)]
+#[derive(Clone, Copy)]
 pub struct ResponseFrame {
     pub head: ResponseHead,
     pub length: u16,
 }
 
-#[derive(Drop)]
+#[derive(Clone, Copy)]
 pub enum ResponseRead {
     Frame(ResponseFrame),
     Refused(Refusal),
 }
 
 // The fields between header and data.
-#[derive(Drop)]
+#[derive(Clone, Copy)]
 pub struct Iu {
     pub present: u8,
     pub status: u8,

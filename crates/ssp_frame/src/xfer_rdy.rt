@@ -8,7 +8,7 @@ use crate::header;
 use crate::header::Header;
 use refusals::{Refusal, Written};
 
-#[derive(Drop)]
+#[derive(Clone, Copy)]
 pub struct XferHead {
     // The hashed addresses, 24 bits each.
     pub destination: u32,
@@ -25,7 +25,7 @@ pub struct XferHead {
     pub length: u32,
 }
 
-#[derive(Drop)]
+#[derive(Clone, Copy)]
 pub enum XferRead {
     Frame(XferHead),
     Refused(Refusal),

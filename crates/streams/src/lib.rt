@@ -1,11 +1,13 @@
 // A program's streams: reads and writes of which none loses a byte in silence. A call that a signal interrupts is made again. What
 // fails is said on standard error, behind words of the program's, and answered; only an output that nobody reads any more ends a
 // program without a word, as it ends any filter. Which bytes the system moves, and which error it names, no promise can say.
+#![tactic(auto)]
+
 ghost use Rattle.std.specs.Prelude.{◌≤◌};
 ghost use Rattle.io.specs.Counts.{IsPrefixLen};
 
 // What a read came to: so many bytes at the start of the buffer. If there are none, the input ended, unless the read failed.
-#[derive(Drop)]
+#[derive(Clone, Copy)]
 pub struct Got {
     pub bytes: usize,
     pub failed: bool,

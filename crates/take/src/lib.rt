@@ -1,5 +1,7 @@
 // The calls of a write that read and write bytes: the XFER_RDY that asks for a range, and the data that comes for it, which goes into a store; and
 // RESPONSE in a module of its own.
+#![tactic(auto)]
+
 ghost use Rattle.std.specs.Prelude.{◌≡◌, ◌++◌, ◌≤◌, ◌<◌, length, drop};
 ghost use Rattle.write.specs.Steps.{limit, asked_length};
 ghost use Rattle.write.specs.Calls.{is_refused};

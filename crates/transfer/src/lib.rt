@@ -1,4 +1,6 @@
 // Document 01, 'Read transfer': the transfer's state, which goes in and comes back by value, and a method for each call.
+#![tactic(auto)]
+
 ghost use Rattle.std.specs.Prelude.{◌≡◌};
 ghost use Rattle.transfer.specs.Rules.{unstarted};
 ghost use Rattle.transfer.specs.Steps.{limit, start_step, frame_step, ack_step, nak_step, drop_step, end_step};
@@ -9,7 +11,7 @@ mod causes;
 mod rules;
 mod steps;
 
-#[derive(Drop)]
+#[derive(Clone, Copy)]
 pub enum Phase {
     // Before START.
     New,
@@ -26,7 +28,7 @@ pub enum Phase {
 }
 
 // What a call answers, in document 01's words.
-#[derive(Drop)]
+#[derive(Clone, Copy)]
 pub enum Answer {
     // START was taken, or an ACK that leaves the transfer in run.
     Ok,
@@ -43,7 +45,7 @@ pub enum Answer {
     Refused(Refusal),
 }
 
-#[derive(Drop)]
+#[derive(Clone, Copy)]
 pub struct Transfer {
     // B, where the request begins.
     pub offset: u32,
@@ -66,7 +68,7 @@ pub struct Transfer {
     pub phase: Phase,
 }
 
-#[derive(Drop)]
+#[derive(Clone, Copy)]
 pub struct Stepped {
     pub answer: Answer,
     pub state: Transfer,

@@ -1,4 +1,6 @@
 // A read transfer as C lends it and gets it back: numbers alone, since C can lend any byte where Rattle has an enum or a bool.
+#![tactic(auto)]
+
 ghost use Rattle.std.specs.Prelude.{◌≡◌};
 ghost use Rattle.transfer_lent.specs.Face.{start, frame, ack, nak, timeout, lost, nexus, cancel, face_of, Next, length_of};
 ghost use Rattle.transfer_lent.specs.Saves.{restore_of, Save};
@@ -12,7 +14,7 @@ mod saves;
 
 // struct sonerwal_transfer: the fields of `Transfer`, with no padding between or behind them. All zeros is the state before START.
 #[repr(C)]
-#[derive(Drop)]
+#[derive(Clone, Copy)]
 pub struct State {
     pub offset: u32,
     pub count: u32,
@@ -32,7 +34,7 @@ pub struct State {
 
 // struct sonerwal_transfer_step: the state after a call, and the number of its answer.
 #[repr(C)]
-#[derive(Drop)]
+#[derive(Clone, Copy)]
 pub struct Step {
     pub state: State,
     pub answer: u8,
@@ -40,7 +42,7 @@ pub struct Step {
 
 // struct sonerwal_saved: the bytes of a saved line, 0 on a refusal, and the number of the answer.
 #[repr(C)]
-#[derive(Drop)]
+#[derive(Clone, Copy)]
 pub struct Saved {
     pub length: usize,
     pub answer: u8,

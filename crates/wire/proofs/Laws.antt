@@ -204,11 +204,11 @@ placed s ys x at n v ex ey =
     back_tail at s ys ∙ ap (λ (z : List ℕ). take at s ++ z) (ey ∙ (λ i. (take-length x ∙ ex) i ++ rest i))
 
 -- a field that was copied to the front of d, as the part x from at on
-pub copied : (s d rest : List ℕ) (at n : ℕ) → at + n ≤ length s → let x = take (at + n - at) (drop at s) in d ≡ take (length x) x ++ rest → be_at d 0 n ≡ be_at s at n
+pub copied : (s d rest : List ℕ) (at n : ℕ) → at + n ≤ length s → let x = take (at + n - at) (drop at s) in d ≡ x ++ rest → be_at d 0 n ≡ be_at s at n
 copied s d rest at n room e =
     let m = at + n - at in
     let x = take m (drop at s) in
     let long : length x ≡ n = length-take-le m (drop at s) (omega (arith, length-drop at s)) ∙ omega arith in
-    ap (λ (l : List ℕ). be_at l 0 n) (e ∙ ap (λ (l : List ℕ). l ++ rest) (take-length x))
+    ap (λ (l : List ℕ). be_at l 0 n) e
     ∙ be_at_front n x rest (omega arith)
     ∙ be_at_part s at m n (omega arith)

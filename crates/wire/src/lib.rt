@@ -1,5 +1,7 @@
 // Numbers in a slice of bytes, the highest byte first. One reader and one writer serve every width. Both go through eight bytes
 // of their own, so that the compiler moves a field at once and swaps its bytes in a register.
+#![tactic(auto)]
+
 ghost use Rattle.std.specs.Prelude.{◌≡◌, ◌+◌, ◌<◌, ◌≤◌, ◌^◌, leb, take};
 ghost use Rattle.wire.specs.Be.{be_at, be_bytes, put_be, Got};
 
@@ -42,7 +44,7 @@ pub fn get_be(s: &[u8], at: usize, n: usize) -> u64
     }
     if inside(s.len(), at, n) {
         let mut d = [0u8; 8];
-        bytes::copy(&s[at..at + n], &mut d);
+        d[..n].copy_from_slice(&s[at..at + n]);
         number(d, n)
     } else {
         0
@@ -75,6 +77,6 @@ pub fn put_be(s: &mut [u8], at: usize, n: usize, v: u64)
     }
     if inside(s.len(), at, n) {
         let d = digits(n, v);
-        bytes::copy(&d[..n], &mut s[at..]);
+        s[at..at + n].copy_from_slice(&d[..n]);
     }
 }

@@ -1,5 +1,7 @@
 // Request c), the write: a host writes N bytes, and the target asks for them range by range by XFER_RDY and takes them in order of
 // offset. The state goes in and comes back by value, with a method for each call; no bytes are here.
+#![tactic(auto)]
+
 ghost use Rattle.std.specs.Prelude.{◌≡◌};
 ghost use Rattle.write.specs.Rules.{unstarted};
 ghost use Rattle.write.specs.Steps.{limit, start_step, xfer_step, ack_step, miss_step, got_step, end_step};
@@ -11,7 +13,7 @@ mod rules;
 mod steps;
 mod tags;
 
-#[derive(Drop)]
+#[derive(Clone, Copy)]
 pub enum Phase {
     // Before START.
     New,
@@ -30,7 +32,7 @@ pub enum Phase {
 }
 
 // What a call answers.
-#[derive(Drop)]
+#[derive(Clone, Copy)]
 pub enum Answer {
     // START was taken, or an ACK, or data before the range's end.
     Ok,
@@ -49,7 +51,7 @@ pub enum Answer {
     Refused(Refusal),
 }
 
-#[derive(Drop)]
+#[derive(Clone, Copy)]
 pub struct Write {
     // B, where the request begins.
     pub offset: u32,
@@ -70,7 +72,7 @@ pub struct Write {
     pub phase: Phase,
 }
 
-#[derive(Drop)]
+#[derive(Clone, Copy)]
 pub struct Stepped {
     pub answer: Answer,
     pub state: Write,

@@ -1,4 +1,6 @@
 // A write as C lends it and gets it back: numbers alone, since C can lend any byte where Rattle has an enum.
+#![tactic(auto)]
+
 ghost use Rattle.std.specs.Prelude.{◌≡◌};
 ghost use Rattle.write.specs.Calls.{start, xfer, ack, nak, timeout, lost, got, nexus, cancel};
 ghost use Rattle.take_history.specs.Calls.{plain};
@@ -9,7 +11,7 @@ pub mod numbers;
 
 // struct sonerwal_write: the fields of `Write`, with no padding between or behind them. All zeros is the state before START.
 #[repr(C)]
-#[derive(Drop)]
+#[derive(Clone, Copy)]
 pub struct State {
     // The write's own transfer tags in use, tag t at bit t.
     pub tags: u64,
@@ -30,7 +32,7 @@ pub struct State {
 
 // struct sonerwal_write_step: the state after a call, and the number of its answer.
 #[repr(C)]
-#[derive(Drop)]
+#[derive(Clone, Copy)]
 pub struct Step {
     pub state: State,
     pub answer: u8,

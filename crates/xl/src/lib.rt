@@ -1,4 +1,6 @@
 // Document 01, 'XL: one event, one step': the step, an OPEN received as bytes, and the link status.
+#![tactic(auto)]
+
 ghost use Rattle.std.specs.Prelude.{◌≡◌, not, ◌&&◌};
 ghost use Rattle.open_frame.specs.Open.{head_listed};
 ghost use Rattle.xl.specs.Rules as rules;

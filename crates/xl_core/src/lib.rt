@@ -1,4 +1,6 @@
 // Document 01, 'XL: one event, one step': its table, in code.
+#![tactic(auto)]
+
 mod effects;
 mod kinds;
 mod memory;

@@ -1,4 +1,6 @@
 // An expander link as C lends it: numbers alone, no padding, and what is left over of its bytes has a name and is zero.
+#![tactic(auto)]
+
 ghost use Rattle.std.specs.Prelude.{◌≡◌};
 ghost use Rattle.laws.specs.Names as names;
 ghost use Rattle.xl_lent.specs.Lent as lent;
@@ -16,7 +18,7 @@ use xl_parts::{Actions, Answer, Event, Held, Memory, Phase, Primitive, Seen, Sta
 
 // All zeros is XL0 with nothing remembered.
 #[repr(C)]
-#[derive(Drop)]
+#[derive(Clone, Copy)]
 pub struct Link {
     // The frame that the link works for; all zeros where there is none.
     pub held: Open,
@@ -44,7 +46,7 @@ pub struct Link {
 
 // Four actions in order, C's action[4].
 #[repr(C)]
-#[derive(Drop)]
+#[derive(Clone, Copy)]
 pub struct Codes {
     pub first: Code,
     pub second: Code,
@@ -53,7 +55,7 @@ pub struct Codes {
 }
 
 #[repr(C)]
-#[derive(Drop)]
+#[derive(Clone, Copy)]
 pub struct Step {
     pub state: Link,
     pub actions: Codes,

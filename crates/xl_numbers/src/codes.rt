@@ -10,19 +10,19 @@ use xl_parts::{Action, BreakAction, BreakEvent, Confirmation, Event, Message, No
 
 // The detail is 0 where a kind has none. C lends one for an event, and gets one for each action.
 #[repr(C)]
-#[derive(Drop)]
+#[derive(Clone, Copy)]
 pub struct Code {
     pub kind: u8,
     pub detail: u8,
 }
 
-#[derive(Drop)]
+#[derive(Clone, Copy)]
 pub enum EventRead {
     Named(Event),
     Unnamed,
 }
 
-#[derive(Drop)]
+#[derive(Clone, Copy)]
 pub enum ActionRead {
     Named(Action),
     Unnamed,

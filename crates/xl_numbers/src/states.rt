@@ -6,13 +6,13 @@ ghost use Rattle.xl_numbers.specs.States.{phase_of, aip_number, aip_of, status_n
 use crate::details;
 use xl_parts::{LinkStatus, Phase, Seen, Wait};
 
-#[derive(Drop)]
+#[derive(Clone, Copy)]
 pub enum PhaseRead {
     Named(Phase),
     Unnamed,
 }
 
-#[derive(Drop)]
+#[derive(Clone, Copy)]
 pub enum AipRead {
     Named(Seen),
     Unnamed,

@@ -1,4 +1,6 @@
 // Document 01, 'XL': what an expander link hears, does and remembers, and how it enters a state.
+#![tactic(auto)]
+
 ghost use Rattle.std.specs.Prelude.{◌≡◌, [], ◌∷◌};
 ghost use Rattle.xl_parts.specs.Parts as parts;
 ghost use Rattle.xl_parts.specs.Parts.{on_entry, packed, done};
@@ -7,7 +9,7 @@ use open_frame::OpenFrame;
 use refusals::Refusal;
 
 // 01 XL.4
-#[derive(Drop)]
+#[derive(Clone, Copy)]
 pub enum Phase {
     // Idle.
     Xl0,
@@ -34,7 +36,7 @@ pub enum Phase {
 }
 
 // The kinds of AIP and of ArbStatus. The caller takes a reserved AIP for the kind that source document 004, table 100, names.
-#[derive(Drop)]
+#[derive(Clone, Copy)]
 pub enum Wait {
     Normal,
     // Waiting on partial.
@@ -46,7 +48,7 @@ pub enum Wait {
 }
 
 // 01 XL.5: OPEN_REJECT kinds: NO, BAD and WRONG DESTINATION, CONNECTION RATE and PROTOCOL NOT SUPPORTED, PATHWAY BLOCKED, STP RESOURCES BUSY, RETRY.
-#[derive(Drop)]
+#[derive(Clone, Copy)]
 pub enum Reject {
     NoDestination,
     BadDestination,
@@ -62,7 +64,7 @@ pub enum Reject {
 }
 
 // The kinds of ArbReject.
-#[derive(Drop)]
+#[derive(Clone, Copy)]
 pub enum Denial {
     NoDestination,
     BadDestination,
@@ -71,7 +73,7 @@ pub enum Denial {
 }
 
 // The kinds of Arbitrating.
-#[derive(Drop)]
+#[derive(Clone, Copy)]
 pub enum Arbitration {
     WaitingOnPartial,
     BlockedOnPartial,
@@ -79,7 +81,7 @@ pub enum Arbitration {
 }
 
 // What a phy receives, and what it transmits. An OPEN's frame goes beside it.
-#[derive(Drop)]
+#[derive(Clone, Copy)]
 pub enum Primitive {
     Open,
     OpenAccept,
@@ -89,7 +91,7 @@ pub enum Primitive {
 }
 
 // What the router carries from one link to another. The frame of SendOpen and BackoffReversePath goes beside it.
-#[derive(Drop)]
+#[derive(Clone, Copy)]
 pub enum Message {
     SendOpen,
     SendClose,
@@ -101,7 +103,7 @@ pub enum Message {
 }
 
 // What the connection manager says.
-#[derive(Drop)]
+#[derive(Clone, Copy)]
 pub enum Confirmation {
     ArbWon,
     ArbLost,
@@ -110,7 +112,7 @@ pub enum Confirmation {
 }
 
 // What a link says to itself.
-#[derive(Drop)]
+#[derive(Clone, Copy)]
 pub enum Notice {
     // The path timer expired.
     PathTimer,
@@ -122,7 +124,7 @@ pub enum Notice {
 }
 
 // All that comes of BREAK.
-#[derive(Drop)]
+#[derive(Clone, Copy)]
 pub enum BreakEvent {
     // BREAK received.
     Received,
@@ -132,7 +134,7 @@ pub enum BreakEvent {
     Timeout,
 }
 
-#[derive(Drop)]
+#[derive(Clone, Copy)]
 pub enum Event {
     // Received by the phy.
     Line(Primitive),
@@ -147,7 +149,7 @@ pub enum Event {
 }
 
 // What a link does about BREAK.
-#[derive(Drop)]
+#[derive(Clone, Copy)]
 pub enum BreakAction {
     // Transmits BREAK.
     Transmit,
@@ -156,7 +158,7 @@ pub enum BreakAction {
 }
 
 // What a link does. The frame of an OPEN, a SendOpen, a BackoffReversePath or a RequestPath is the one that the new state holds.
-#[derive(Drop)]
+#[derive(Clone, Copy)]
 pub enum Action {
     None,
     // By the phy.
@@ -170,7 +172,7 @@ pub enum Action {
 
 // 01 XL.1: A step answers the new state and at most four actions, in order.
 // None stands behind every other.
-#[derive(Drop)]
+#[derive(Clone, Copy)]
 pub struct Actions {
     pub first: Action,
     pub second: Action,
@@ -178,19 +180,19 @@ pub struct Actions {
     pub fourth: Action,
 }
 
-#[derive(Drop)]
+#[derive(Clone, Copy)]
 pub enum Held {
     Nothing,
     Frame(OpenFrame),
 }
 
-#[derive(Drop)]
+#[derive(Clone, Copy)]
 pub enum Seen {
     Never,
     Latest(Wait),
 }
 
-#[derive(Drop)]
+#[derive(Clone, Copy)]
 pub struct Memory {
     // The frame that the link works for: received or transmitted.
     pub held: Held,
@@ -206,7 +208,7 @@ pub struct Memory {
     pub blocked: bool,
 }
 
-#[derive(Drop)]
+#[derive(Clone, Copy)]
 pub struct State {
     pub phase: Phase,
     pub memory: Memory,
@@ -214,13 +216,13 @@ pub struct State {
     pub count: u32,
 }
 
-#[derive(Drop)]
+#[derive(Clone, Copy)]
 pub enum Answer {
     Done,
     Refused(Refusal),
 }
 
-#[derive(Drop)]
+#[derive(Clone, Copy)]
 pub struct Stepped {
     pub answer: Answer,
     pub state: State,
@@ -228,7 +230,7 @@ pub struct Stepped {
 }
 
 // What the connection manager is told of a link.
-#[derive(Drop)]
+#[derive(Clone, Copy)]
 pub enum LinkStatus {
     Ready,
     Connected,

@@ -6,7 +6,7 @@ use xl_numbers::states::AipRead;
 use xl_parts::{Event, Held, Memory, Notice, Phase, Primitive, Seen};
 
 // How an OPEN crosses: n is its priority, back whether it goes back to that frame's source.
-#[derive(Drop)]
+#[derive(Clone, Copy)]
 struct Crossing {
     pub n: u8,
     pub back: u8,

@@ -5,6 +5,8 @@
 // '/'. '+' before it says that one more is counted, and a '+' alone that nothing but the count changed. A memory is six signs: the
 // frame held and the OPEN remembered (- none, h the frame held before, e the event's, o the OPEN remembered before), the latest AIP
 // (- none), BREAK, CLOSE and Blocked On Partial.
+#![tactic(auto)]
+
 mod cells;
 mod counts;
 mod crossings;
