@@ -26,6 +26,7 @@ impl Reply {
     }
 
     // Whether the state is that before START, or some START and calls after it leave it.
+    #[tactic(auto, unfolding(crate::specs::Rules::keeps_rules))]
     pub fn keeps_rules(self) -> bool
         ensures { result ≡ keeps_rules self }
     {

@@ -94,6 +94,7 @@ impl Reply {
     }
 
     // A NAK, TIMEOUT or LOST.
+    #[tactic(auto, unfolding(crate::specs::Steps::failed))]
     pub(crate) fn failed(mut self) -> Stepped
         ensures { result ≡ steps.failed self }
     {

@@ -29,7 +29,7 @@ use Rattle.transfer.specs.declared.Answer.{Answer}
 use Rattle.transfer.proofs.Calls.{frame_fits}
 use Rattle.transfer.proofs.Demand.{apart}
 use Rattle.send.specs.Send.{head_of, fitting, next_causes, next_step, next_bytes, is_sent}
-use Rattle.send.specs.Calls.{Call, next}
+use Rattle.send.specs.Calls.{next}
 use Rattle.send.specs.History.{Sent, found, written, entries_of, frame_of, entry_of, frames}
 use Rattle.send.proofs.Laws.{Long, long}
 

@@ -1,6 +1,6 @@
 -- What a call from C was given and lent, and what it answers and leaves. Assumes nothing.
 use Rattle.std.specs.Prelude.{◌≡◌, List, ℕ}
-use Rattle.std.specs.Borrow.{Bor}
+use denote.MutBor.{MutBor}
 use denote.Triple.Both.{Both}
 use Rattle.laws.specs.Names.{flag}
 use Rattle.refusals.specs.Refusals.{number_of}
@@ -70,9 +70,9 @@ response7 destination source retransmit tag present status length = record { hea
 
 -- ---- what a call was lent and left
 
--- a number or bytes behind a pointer, as they are when the call begins and when it ends
+-- a number or bytes behind a pointer that may write, as they are when the call begins and when it ends
 abbrev pub Lent : Type 0 → Type 0
-Lent A = Both (Bor A) (Bor A)
+Lent A = Both (MutBor A) (MutBor A)
 
 abbrev pub before : {A : Type 0} → Lent A → A
 before x = x.entry.now
@@ -106,8 +106,8 @@ pub record Read (A F : Type 0) : Type 0 where
   pub answer : A
   pub left : F
 
-abbrev pub reading : {F : Type 0} → Lent (List ℕ) → Fields F → ℕ → Read ℕ F
-reading frame fields answer = record { frame = before frame; lent = fields before; answer = answer; left = fields after }
+abbrev pub reading : {F : Type 0} → List ℕ → Fields F → ℕ → Read ℕ F
+reading frame fields answer = record { frame = frame; lent = fields before; answer = answer; left = fields after }
 
 -- a writer's call: what it is given to write, and the bytes that it is lent and leaves
 pub record Write (A G : Type 0) : Type 0 where
@@ -127,14 +127,14 @@ pub record Given (H : Type 0) : Type 0 where
 abbrev pub DataGiven : Type 0
 DataGiven = Given DataHead
 
-abbrev pub data_given : ℕ → ℕ → ℕ → ℕ → ℕ → Lent (List ℕ) → DataGiven
-data_given destination source changing tag offset body = record { head = data5 destination source changing tag offset; body = before body }
+abbrev pub data_given : ℕ → ℕ → ℕ → ℕ → ℕ → List ℕ → DataGiven
+data_given destination source changing tag offset body = record { head = data5 destination source changing tag offset; body = body }
 
-abbrev pub out_given : ℕ → ℕ → ℕ → ℕ → ℕ → ℕ → Lent (List ℕ) → Given OutHead
-out_given destination source changing tag transfer offset body = record { head = out6 destination source changing tag transfer offset; body = before body }
+abbrev pub out_given : ℕ → ℕ → ℕ → ℕ → ℕ → ℕ → List ℕ → Given OutHead
+out_given destination source changing tag transfer offset body = record { head = out6 destination source changing tag transfer offset; body = body }
 
-abbrev pub response_given : ℕ → ℕ → ℕ → ℕ → ℕ → ℕ → Lent (List ℕ) → Given ResponseHead
-response_given destination source retransmit tag present status body = record { head = response6 destination source retransmit tag present status; body = before body }
+abbrev pub response_given : ℕ → ℕ → ℕ → ℕ → ℕ → ℕ → List ℕ → Given ResponseHead
+response_given destination source retransmit tag present status body = record { head = response6 destination source retransmit tag present status; body = body }
 
 -- ---- what a call promises
 

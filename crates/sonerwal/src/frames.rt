@@ -28,7 +28,7 @@ pub extern "C" fn sonerwal_open_read(
     pbc: &mut u8,
     awt: &mut u16,
 ) -> u8
-    ensures { OpenReads (reading frame (open_lent initiator protocol features rate tag destination source pbc awt) result) }
+    ensures { OpenReads (reading frame.now (open_lent initiator protocol features rate tag destination source pbc awt) result) }
 {
     match open_frame::read_open(frame) {
         OpenRead::Frame(f) => {
@@ -90,7 +90,7 @@ pub extern "C" fn sonerwal_data_read(
     offset: &mut u32,
     length: &mut u16,
 ) -> u8
-    ensures { DataReads (reading frame (data_lent destination source changing tag offset length) result) }
+    ensures { DataReads (reading frame.now (data_lent destination source changing tag offset length) result) }
 {
     match data::read_data(frame) {
         DataRead::Frame(f) => {
@@ -117,7 +117,7 @@ pub extern "C" fn sonerwal_data_write(
     body: &[u8],
     frame: &mut [u8],
 ) -> u8
-    ensures { DataWrites (writing (data_given destination source changing tag offset body) frame result) }
+    ensures { DataWrites (writing (data_given destination source changing tag offset body.now) frame result) }
 {
     let h = DataHead {
         destination,
@@ -142,7 +142,7 @@ pub extern "C" fn sonerwal_xfer_rdy_read(
     offset: &mut u32,
     length: &mut u32,
 ) -> u8
-    ensures { XferReads (reading frame (xfer_lent destination source retransmit retry tag transfer offset length) result) }
+    ensures { XferReads (reading frame.now (xfer_lent destination source retransmit retry tag transfer offset length) result) }
 {
     match xfer_rdy::read_xfer_rdy(frame) {
         XferRead::Frame(h) => {
@@ -200,7 +200,7 @@ pub extern "C" fn sonerwal_data_out_read(
     offset: &mut u32,
     length: &mut u16,
 ) -> u8
-    ensures { OutReads (reading frame (out_lent destination source changing tag transfer offset length) result) }
+    ensures { OutReads (reading frame.now (out_lent destination source changing tag transfer offset length) result) }
 {
     match data_out::read_data_out(frame) {
         OutRead::Frame(f) => {
@@ -229,7 +229,7 @@ pub extern "C" fn sonerwal_data_out_write(
     body: &[u8],
     frame: &mut [u8],
 ) -> u8
-    ensures { OutWrites (writing (out_given destination source changing tag transfer offset body) frame result) }
+    ensures { OutWrites (writing (out_given destination source changing tag transfer offset body.now) frame result) }
 {
     let h = OutHead {
         destination,
@@ -254,7 +254,7 @@ pub extern "C" fn sonerwal_response_read(
     status: &mut u8,
     length: &mut u16,
 ) -> u8
-    ensures { ResponseReads (reading frame (response_lent destination source retransmit tag present status length) result) }
+    ensures { ResponseReads (reading frame.now (response_lent destination source retransmit tag present status length) result) }
 {
     match response::read_response(frame) {
         ResponseRead::Frame(f) => {
@@ -283,7 +283,7 @@ pub extern "C" fn sonerwal_response_write(
     body: &[u8],
     frame: &mut [u8],
 ) -> u8
-    ensures { ResponseWrites (writing (response_given destination source retransmit tag present status body) frame result) }
+    ensures { ResponseWrites (writing (response_given destination source retransmit tag present status body.now) frame result) }
 {
     let h = ResponseHead {
         destination,

@@ -90,8 +90,8 @@ pub(crate) fn put_payload(body: &[u8], fill: usize, out: &mut [u8])
     let n = body.len();
     put_fill(n, fill, out);
     let mut block = [0u8; 1024];
-    bytes::copy(body, &mut block);
-    bytes::copy(&block[..n], out);
+    block[..n].copy_from_slice(body);
+    out[..n].copy_from_slice(&block[..n]);
 }
 
 // 01 FORM.1: The part of the output slice from 24 on is lent to the payload writer.

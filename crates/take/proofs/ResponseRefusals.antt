@@ -8,7 +8,7 @@ use Rattle.laws.specs.Tests.{Says}
 use Rattle.laws.proofs.Bools.{never}
 use Rattle.refusals.proofs.Causes.{decides_append}
 use Rattle.refusals.proofs.Frames.{frame_decides}
-use Rattle.ssp_frame.specs.Response.{response_sized, response_listed, response_left}
+use Rattle.ssp_frame.specs.Response.{response_sized, response_listed}
 use Rattle.ssp_frame.specs.declared.response.ResponseHead.{ResponseHead}
 use Rattle.reply.specs.Steps.{refused, responded}
 use Rattle.reply.specs.Calls.{respond}

@@ -157,8 +157,8 @@ fn put_data(body: &[u8], store: &mut [u8])
 {
     let n = body.len();
     let mut block = [0u8; 1024];
-    bytes::copy(body, &mut block);
-    bytes::copy(&block[..n], store);
+    block[..n].copy_from_slice(body);
+    store[..n].copy_from_slice(&block[..n]);
 }
 
 // DATA, read from frame; what is taken of it goes into store from next - B on. Every other byte of store stays, and on a refusal all of them.

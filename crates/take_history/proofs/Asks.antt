@@ -1,28 +1,26 @@
 -- An XFER_RDY that went is read back out of its bytes as it was meant, so the history that is read from bytes says of it what the plain call's
 -- says. Assumes nothing.
 use Prim.Native.Nat.{ℕ, ◌^◌, ◌≤◌, ◌<◌}
-use mathlib.Core.Bool.{Bool, true, false, not, ◌&&◌}
-use mathlib.Core.List.{List, [], ◌∷◌, ◌++◌}
-use mathlib.Core.Path.{◌≡◌, refl, sym, ap, ◌∙◌}
+use mathlib.Core.List.{List}
+use mathlib.Core.Path.{◌≡◌, refl, ap, ◌∙◌}
 use native.Mathlib.Omega.{arith}
-use lib.Dec.{ltb, leb}
-use lib.ListN.{length, take, drop}
+use lib.Dec.{ltb}
+use lib.ListN.{take, drop}
 use lib.Seq.{take_at}
-use borrow.Author.Tests.{leb-true, leb-false, ltb-true, not-false}
+use borrow.Author.Tests.{leb-false, ltb-true, not-false}
 use Rattle.laws.proofs.Bools.{and_left, and_right}
 use Rattle.refusals.specs.declared.Refusal.{Refusal}
 use Rattle.refusals.proofs.Causes.{NoneGiven, Verdict, stopped, passes, verdict, unrefused}
-use Rattle.ssp_frame.specs.Xfer.{xfer_bytes, xfer_left, Typed, read_xfer_rdy}
+use Rattle.ssp_frame.specs.Xfer.{xfer_bytes, read_xfer_rdy}
 use Rattle.ssp_frame.specs.declared.xfer_rdy.XferHead.{XferHead}
 use Rattle.ssp_frame.specs.declared.xfer_rdy.XferRead.{XferRead}
 use Rattle.ssp_frame.specs.declared.xfer_rdy.XferRead.TheVariants.{Frame as XferRdy}
-use Rattle.ssp_frame.proofs.XferFields.{Listed}
 use Rattle.ssp_frame.proofs.XferTrip.{read_written}
-use Rattle.write.specs.Steps.{refused, free, asked, xfer_causes, xfer_step}
+use Rattle.write.specs.Steps.{refused, free, xfer_causes, xfer_step}
 use Rattle.write.specs.declared.Write.{Write}
 use Rattle.write.specs.declared.Stepped.{Stepped}
 use Rattle.write.proofs.Calls.{asks_some}
-use Rattle.write_history.specs.History.{Xfer, asked as went}
+use Rattle.write_history.specs.History.{asked as went}
 use Rattle.write_history.specs.Log.{xfer_of}
 use Rattle.write_history.proofs.Alike.{AsksLike}
 use Rattle.take.specs.Ask.{addressed, head_of, ask_causes, ask_step, ask_bytes}

@@ -1,8 +1,8 @@
 -- The image theorem of a write: at complete the taken frames cover the request end to end, and the store holds them. Assumes nothing.
-use Prim.Native.Nat.{ℕ, ◌+◌, ◌-◌, ◌≤◌}
-use mathlib.Core.Bool.{Bool, true, false, cond}
-use mathlib.Core.List.{List, [], ◌∷◌, ◌++◌}
-use mathlib.Core.Path.{◌≡◌, refl, sym, ap, subst, ◌∙◌}
+use Prim.Native.Nat.{ℕ, ◌-◌, ◌≤◌}
+use mathlib.Core.Bool.{Bool, false, cond}
+use mathlib.Core.List.{List, [], ◌++◌}
+use mathlib.Core.Path.{◌≡◌, sym, ap, subst, ◌∙◌}
 use native.Mathlib.Omega.{arith}
 use lib.ListN.{length, take, drop}
 use lib.Seq.{take_at}
@@ -11,7 +11,7 @@ use Rattle.write.specs.Rules.{unstarted}
 use Rattle.write.specs.Steps.{awaited}
 use Rattle.write.specs.declared.Answer.{Answer}
 use Rattle.write_history.specs.History.{Request, view, takes}
-use Rattle.write_history.specs.Demand.{last_end, EndToEnd, end_of_request}
+use Rattle.write_history.specs.Demand.{last_end, EndToEnd}
 use Rattle.write_history.proofs.Says.{is_done}
 use Rattle.write_history.proofs.Came.{takes_awaited}
 use Rattle.write_history.proofs.Demand.{at_first}

@@ -1,7 +1,7 @@
 -- A retry's bytes are those of the XFER_RDY that failed, but for byte 10 and the transfer tag: both frames are their fields alone, and a retry asks
 -- for the same range. Assumes nothing.
 use Prim.Native.Nat.{ℕ, ◌≤◌}
-use mathlib.Core.Bool.{Bool, true, false, cond}
+use mathlib.Core.Bool.{Bool, true, false}
 use mathlib.Core.List.{List, [], ◌∷◌, ◌++◌}
 use mathlib.Core.Path.{◌≡◌, refl, sym, ap, subst, ◌∙◌}
 use lib.Dec.{eqb}

@@ -1,15 +1,15 @@
 -- The store is the payloads of the taken frames and behind them what was lent first, since data goes where the last ended; so at the end it is the
 -- image that the frames carried. Assumes nothing.
-use Prim.Native.Nat.{ℕ, ◌+◌, ◌-◌, ◌≤◌, ◌<◌}
-use mathlib.Core.Bool.{Bool, true, false, cond, ◌&&◌}
-use mathlib.Core.List.{List, [], ◌∷◌, ◌++◌, append_assoc, append-nil}
-use mathlib.Core.Path.{◌≡◌, refl, sym, ap, subst, ◌∙◌}
+use Prim.Native.Nat.{ℕ, ◌+◌, ◌-◌}
+use mathlib.Core.Bool.{Bool, true, false, cond}
+use mathlib.Core.List.{List, [], ◌∷◌, ◌++◌, append_assoc}
+use mathlib.Core.Path.{◌≡◌, refl, sym, ap, ◌∙◌}
 use native.Mathlib.Omega.{arith}
 use lib.Dec.{eqb}
 use lib.ListN.{length, take, drop, length-append}
-use lib.Seq.{take_at, drop-append-add, take-add, length-take-le, drop-drop}
+use lib.Seq.{take_at, drop-append-add, take-add, drop-drop}
 use Rattle.laws.proofs.Bools.{never, by_test}
-use Rattle.write_history.specs.History.{Xfer, Data, View, Fate, taken_by, takes, take_into, end_of_data, end_of_xfer, note, came}
+use Rattle.write_history.specs.History.{Xfer, Data, View, taken_by, takes, take_into, end_of_data, end_of_xfer, note, came}
 use Rattle.write_history.specs.Demand.{last_end, EndToEnd}
 use Rattle.write_history.proofs.Covers.{at_least}
 use Rattle.take.specs.Take.{laid}

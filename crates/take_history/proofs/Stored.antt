@@ -1,19 +1,17 @@
 -- Over any calls, each lent the store that the last one left, the store holds what was taken: a call that takes data lays it behind the rest,
 -- and no other touches the store. Assumes nothing.
-use Prim.Native.Nat.{ℕ, ◌+◌, ◌-◌, ◌≤◌, ◌<◌}
+use Prim.Native.Nat.{ℕ, ◌+◌, ◌-◌, ◌≤◌}
 use mathlib.Core.Bool.{Bool, true, false, cond}
 use mathlib.Core.List.{List, [], ◌∷◌, ◌++◌}
 use mathlib.Core.Path.{◌≡◌, refl, sym, ap, subst, ◌∙◌}
 use native.Mathlib.Omega.{arith}
 use lib.Dec.{ltb}
-use lib.ListN.{length, take, drop}
-use lib.Seq.{take_at}
-use Rattle.laws.proofs.Bools.{never, by_test}
-use Rattle.refusals.specs.declared.Refusal.{Refusal}
-use Rattle.ssp_frame.specs.Out.{out_of, read_data_out}
+use lib.ListN.{length, drop}
+use Rattle.laws.proofs.Bools.{by_test}
+use Rattle.ssp_frame.specs.Out.{out_of}
 use Rattle.ssp_frame.specs.declared.data_out.OutRead.{OutRead}
 use Rattle.write.specs.Rules.{unstarted, end_of}
-use Rattle.write.specs.Steps.{awaited, refused, taken, got}
+use Rattle.write.specs.Steps.{awaited, taken, got}
 use Rattle.write.specs.Rules.{until}
 use Rattle.write.specs.Calls as plainly
 use Rattle.write.specs.declared.Write.{Write}
@@ -21,18 +19,17 @@ use Rattle.write.specs.declared.Stepped.{Stepped}
 use Rattle.write.specs.declared.Answer.{Answer}
 use Rattle.write.specs.Calls.{is_refused}
 use Rattle.write_history.specs.History.{Data, Entry, started, asked, acked, nacked, timed_out, was_lost, came, ended, entries, View, note, view, takes}
-use Rattle.write_history.specs.Demand.{last_end, EndToEnd, end_of_request}
 use Rattle.write_history.proofs.Invariant.{Inv}
 use Rattle.write_history.proofs.Demand.{at_first}
 use Rattle.write_history.proofs.Came.{takes_awaited}
-use Rattle.take.specs.Take.{payload, laid, stored_by, take_store}
+use Rattle.take.specs.Take.{payload, laid}
 use Rattle.take_history.specs.Calls.{Call, plain, step_of, run, Typed, AllTyped}
 use Rattle.take_history.specs.Calls as calls
 use Rattle.take_history.specs.History.{found_data, data_in, entry_of, entries_of, history}
-use Rattle.take_history.specs.Store.{store_after, store_of, NoPlainData, Lent, AllLent, started_by, first_after, first_of, payloads, FromImage}
+use Rattle.take_history.specs.Store.{store_after, store_of, Lent, AllLent, first_after, first_of, payloads}
 use Rattle.take_history.proofs.Takes as taking
 use Rattle.take_history.proofs.Demand.{says_so, alike_data}
-use Rattle.take_history.proofs.Store.{Sized, filled, Holds, laid_behind, took, left, pictured}
+use Rattle.take_history.proofs.Store.{Sized, filled, Holds, laid_behind, took, left}
 
 -- the store holds what the history says was taken
 pub record Keeps (h : List Entry) (store first : List ℕ) : Type 0 where

@@ -1,16 +1,15 @@
 -- A frame of data that is not refused is read as it stands, and then it is DATA with its numbers: the causes of the call have those of the frame
 -- and of DATA among them. Assumes nothing.
-use Prim.Native.Nat.{ℕ, ◌+◌, ◌-◌, ◌≤◌, ◌<◌}
-use mathlib.Core.Bool.{Bool, true, false, not, cond, ◌&&◌}
-use mathlib.Core.List.{List, [], ◌∷◌, ◌++◌}
-use mathlib.Core.Path.{◌≡◌, refl, sym, ap, ◌∙◌}
+use Prim.Native.Nat.{ℕ, ◌≤◌}
+use mathlib.Core.Bool.{true, not}
+use mathlib.Core.List.{List}
+use mathlib.Core.Path.{◌≡◌, sym, ap, ◌∙◌}
 use native.Mathlib.Omega.{arith}
 use lib.Dec.{leb, ltb, eqb}
-use lib.ListN.{length, take, drop, get_or, length-drop}
+use lib.ListN.{length, drop, get_or, length-drop}
 use lib.Seq.{length-take-le}
 use borrow.Author.Tests.{leb-true, ltb-true, le-leb, not-false}
 use Rattle.laws.proofs.Bools.{and_left, and_right, and_true}
-use Rattle.refusals.specs.Causes.{refuse}
 use Rattle.refusals.specs.declared.Refusal.{Refusal}
 use Rattle.refusals.proofs.Causes.{NoneGiven, none_append, Verdict, stopped, passes, verdict, unrefused}
 use Rattle.wire.specs.Be.{be_at}
@@ -18,10 +17,9 @@ use Rattle.ssp_frame.specs.Header.{header_of, is_blank}
 use Rattle.ssp_frame.specs.Data.{frame_sized, filled, rest_zero}
 use Rattle.ssp_frame.specs.Out.{out_kind, read_causes, out_of, read_data_out}
 use Rattle.ssp_frame.specs.declared.data_out.OutRead.TheVariants.{Frame, Refused}
-use Rattle.write.specs.Steps.{refused, got, fits, sized, state_causes, got_causes, got_step}
+use Rattle.write.specs.Steps.{refused, got, fits, sized, got_causes, got_step}
 use Rattle.write.specs.declared.Write.{Write}
 use Rattle.write.specs.declared.Stepped.{Stepped}
-use Rattle.take.specs.Ask.{addressed}
 use Rattle.take.specs.Take.{ours, own_causes, take_causes, take_step, payload, stored_by, take_store}
 
 -- a frame of data out has 1 to 1,024 bytes of data

@@ -1,5 +1,5 @@
 -- The store over calls, each lent the store that the last one left, and what it has to hold. Assumes nothing.
-use Rattle.std.specs.Prelude.{ℕ, ◌+◌, ◌-◌, ◌<◌, cond, List, [], ◌∷◌, ◌++◌, ◌≡◌, take, drop}
+use Rattle.std.specs.Prelude.{ℕ, cond, List, [], ◌∷◌, ◌++◌, ◌≡◌, take, drop}
 use Rattle.write.specs.Calls as plainly
 use Rattle.write.specs.declared.Write.{Write}
 use Rattle.write.specs.declared.Answer.{Answer}

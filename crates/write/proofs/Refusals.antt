@@ -131,6 +131,7 @@ module _ (k : ℕ) (two : 2 ≤ k) (s : Write) (small : s.tags < 2 ^ k) where
   recast so (here h) = here h
   recast so (later a (here h)) = later a (here h)
   recast so (later a (later b (here h))) = later a (later b (here (so (kept_unless a) h)))
+  recast {P = P} {Q = Q} so {j = j} (later a (later b (later _ x20))) = elim x20 [ ]
 
   tagged : keeps_rules k s ≡ true → s.tag < k
   tagged e =

@@ -99,6 +99,7 @@ impl Write {
         }
     }
 
+    #[tactic(auto, unfolding(crate::specs::Steps::start_step))]
     pub fn start(mut self, b: u32, n: u32, x: u32, r: u32) -> Stepped
         ensures { result ≡ start_step limit b n x r self }
     {
@@ -121,6 +122,7 @@ impl Write {
     }
 
     // An XFER_RDY goes. The caller gives the tags in use by the port's other writes; this write's own may be among them.
+    #[tactic(auto, unfolding(crate::specs::Steps::xfer_step))]
     pub fn xfer(self, others: u64) -> Stepped
         ensures { result ≡ xfer_step limit others self }
     {
@@ -138,6 +140,7 @@ impl Write {
         self.asked(tag)
     }
 
+    #[tactic(auto, unfolding(crate::specs::Steps::ack_step))]
     pub fn ack(self) -> Stepped
         ensures { result ≡ ack_step limit self }
     {
@@ -152,6 +155,7 @@ impl Write {
         }
     }
 
+    #[tactic(auto, unfolding(crate::specs::Steps::miss_step))]
     pub fn nak(self) -> Stepped
         ensures { result ≡ miss_step limit self }
     {
@@ -179,6 +183,7 @@ impl Write {
     }
 
     // DATA came, of this length at this offset, under this transfer tag.
+    #[tactic(auto, unfolding(crate::specs::Steps::got_step, crate::specs::Steps::got))]
     pub fn got(self, transfer: u16, offset: u32, length: u32) -> Stepped
         ensures { result ≡ got_step limit transfer offset length self }
     {
@@ -199,6 +204,7 @@ impl Write {
         }
     }
 
+    #[tactic(auto, unfolding(crate::specs::Steps::end_step))]
     pub fn cancel(self) -> Stepped
         ensures { result ≡ end_step limit self }
     {

@@ -49,6 +49,7 @@ impl Write {
     }
 
     // What holds from START on.
+    #[tactic(auto, unfolding(crate::specs::Rules::placed))]
     fn placed(self) -> bool
         ensures { result ≡ placed limit self }
     {
@@ -127,6 +128,7 @@ impl Write {
         at & ((self.used == self.resends) & (self.tags == 0))
     }
 
+    #[tactic(auto, unfolding(crate::specs::Rules::phase_rule))]
     fn phase_rule(self, j: u32) -> bool
         requires { placed limit self ≡ true }
         ensures { result ≡ phase_rule j self.phase self }
@@ -158,6 +160,7 @@ impl Write {
     }
 
     // Whether the state is that before START, or some START and calls after it leave it.
+    #[tactic(auto, unfolding(crate::specs::Rules::keeps_rules))]
     pub fn keeps_rules(self) -> bool
         ensures { result ≡ keeps_rules limit self }
     {

@@ -186,6 +186,7 @@ impl Write {
     }
 
     // NAK, TIMEOUT or LOST.
+    #[tactic(auto, unfolding(crate::specs::Steps::missed))]
     pub(crate) fn missed(mut self) -> Stepped
         ensures { result ≡ steps.missed self }
     {
@@ -238,6 +239,7 @@ impl Write {
     }
 
     // DATA up to `to`.
+    #[tactic(auto, unfolding(crate::specs::Steps::taken))]
     pub(crate) fn taken(mut self, to: u32) -> Stepped
         requires { self.tag < limit }
         ensures { result ≡ steps.taken to self }

@@ -1,6 +1,6 @@
 -- Entries that say the same but for the bytes: what is shown of a plain call's entry holds of one that was read from bytes. Assumes nothing.
 use mathlib.Core.Path.{◌≡◌, refl}
-use Rattle.write_history.specs.History.{Request, Xfer, Data, Entry, started, asked, acked, nacked, timed_out, was_lost, came, ended}
+use Rattle.write_history.specs.History.{Xfer, Data, Entry, started, asked, acked, nacked, timed_out, was_lost, came, ended}
 
 pub record AlikeXfer (x y : Xfer) : Type 0 where
   pub retransmit : x.retransmit ≡ y.retransmit

@@ -14,9 +14,8 @@ use Rattle.laws.proofs.Bools.{impossible, by_test, and_false}
 use Rattle.laws.proofs.Tags.{some_in, one_own}
 use Rattle.refusals.proofs.Causes.{by_causes}
 use Rattle.write.specs.Rules.{until}
-use Rattle.write.specs.Steps.{with, refused, previous, free, asked, retransmit_of}
+use Rattle.write.specs.Steps.{refused, previous, free, asked, retransmit_of}
 use Rattle.write.specs.Steps.{xfer_causes, xfer_step}
-use Rattle.write.specs.Calls.{Call}
 use Rattle.write.specs.declared.Write.{Write}
 use Rattle.write.specs.declared.Stepped.{Stepped}
 use Rattle.write.specs.declared.Answer.{Answer}

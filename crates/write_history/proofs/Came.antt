@@ -6,7 +6,6 @@ use mathlib.Core.Logic.{inl, inr}
 use mathlib.Core.Path.{◌≡◌, refl, sym, ap, subst, ◌∙◌}
 use native.Mathlib.Omega.{arith}
 use lib.Dec.{ltb, leb, eqb}
-use lib.ListN.{length}
 use borrow.Author.Tests.{eqb-true, ltb-true, ltb-false, leb-true, eq-eqb, ne_eqb, not-false}
 use Rattle.laws.specs.Tags.{digit, has}
 use Rattle.laws.proofs.Bools.{never, impossible, by_test, and_left, and_right, and_false, nor, implied}
@@ -16,7 +15,6 @@ use Rattle.write.specs.Rules.{end_of, until}
 use Rattle.write.specs.Steps as steps
 use Rattle.write.specs.Steps.{with, say, refused, unfinished, waiting, taking, awaited, early, sized, within, in_order, fits}
 use Rattle.write.specs.Steps.{got_causes, got_step}
-use Rattle.write.specs.Calls.{Call, got}
 use Rattle.write.specs.Grounds.{Unfinished}
 use Rattle.write.specs.declared.Write.{Write}
 use Rattle.write.specs.declared.Stepped.{Stepped}
@@ -27,7 +25,7 @@ use Rattle.write_history.specs.History.{Xfer, Data, Entry, View, Fate, good, fai
 use Rattle.write_history.specs.History as history
 use Rattle.write_history.specs.Words.{ends_all, ends_range, word_by}
 use Rattle.write_history.specs.Log.{data_of}
-use Rattle.write_history.specs.Demand.{last_end, end_of_request, Takes, Late}
+use Rattle.write_history.specs.Demand.{last_end, end_of_request, Takes}
 use Rattle.write_history.proofs.Alike.{AlikeData}
 use Rattle.write_history.proofs.Invariant.{Latest, Open, Before, first, again, on, Asking, Taking, Inv}
 use Rattle.write_history.proofs.Effects as effects

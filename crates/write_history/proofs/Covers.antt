@@ -1,13 +1,13 @@
 -- Frames that lie end to end from b cover the bytes up to the end of the last, each once, since a byte lies before a frame or behind it or in it
 -- alone. Assumes nothing.
-use Prim.Native.Nat.{ℕ, ◌+◌, ◌≤◌, ◌<◌}
+use Prim.Native.Nat.{ℕ, ◌≤◌, ◌<◌}
 use mathlib.Core.List.{List, [], ◌∷◌}
 use mathlib.Core.Logic.{◌⊎◌, inl, inr}
-use mathlib.Core.Path.{◌≡◌, refl}
+use mathlib.Core.Path.{◌≡◌}
 use native.Mathlib.Omega.{arith}
 use Rattle.laws.proofs.Tests.{below_or_not}
-use Rattle.write_history.specs.History.{Data, end_of_data}
-use Rattle.write_history.specs.Demand.{last_end, EndToEnd, In, InNone, InOne, Inside, Covers}
+use Rattle.write_history.specs.History.{Data}
+use Rattle.write_history.specs.Demand.{last_end, EndToEnd, InNone, InOne, Inside, Covers}
 
 -- no frame ends before b
 pub at_least : (b : ℕ) (ds : List Data) → EndToEnd b ds → b ≤ last_end b ds

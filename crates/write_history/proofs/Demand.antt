@@ -2,12 +2,12 @@
 use Prim.Native.Nat.{ℕ, ◌+◌, ◌≤◌}
 use mathlib.Core.Bool.{Bool, true, false, not, cond}
 use mathlib.Core.List.{List, [], ◌∷◌, ◌++◌}
-use mathlib.Core.Logic.{◌⊎◌, inl, inr, ◌↔◌}
+use mathlib.Core.Logic.{inl, inr, ◌↔◌}
 use mathlib.Core.Path.{◌≡◌, refl, sym, ap, subst, ◌∙◌}
 use native.Mathlib.Omega.{arith}
 use lib.ListN.{length}
 use Rattle.laws.specs.Tags.{digit}
-use Rattle.laws.proofs.Bools.{never, impossible}
+use Rattle.laws.proofs.Bools.{impossible}
 use Rattle.write.specs.Rules.{unstarted}
 use Rattle.write.specs.Steps.{unfinished}
 use Rattle.write.specs.Calls.{Call, step_of, run, is_refused, Typed, AllTyped}
@@ -15,13 +15,13 @@ use Rattle.write.specs.declared.Write.{Write}
 use Rattle.write.specs.declared.Stepped.{Stepped}
 use Rattle.write.specs.declared.Answer.{Answer}
 use Rattle.write.specs.declared.Phase.{Phase}
-use Rattle.write_history.specs.History.{Request, Data, Entry, asked, acked, nacked, timed_out, was_lost, came, due, View, view, entries, Among}
+use Rattle.write_history.specs.History.{Request, Entry, asked, acked, nacked, timed_out, was_lost, came, due, View, view, entries, Among}
 use Rattle.write_history.specs.Words.{final, underway}
 use Rattle.write_history.specs.Log.{entry_of, entries_of, history}
 use Rattle.write_history.specs.Demand.{end_of_request, last_end, EndToEnd, Covers, ranges, Answered, WriteDemand}
-use Rattle.write_history.proofs.Alike.{Alike, self}
+use Rattle.write_history.proofs.Alike.{self}
 use Rattle.write_history.proofs.Covers.{covers}
-use Rattle.write_history.proofs.Invariant.{Open, Live, Inv}
+use Rattle.write_history.proofs.Invariant.{Live, Inv}
 use Rattle.write_history.proofs.Says.{is_done, is_fail, AllSaid, Told}
 use Rattle.write_history.proofs.Says as says
 use Rattle.write_history.proofs.Steps.{makes}

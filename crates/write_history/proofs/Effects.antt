@@ -1,7 +1,7 @@
 -- What each call makes of the invariant: the latest XFER_RDY gets the fate that the call says, data moves the next byte to its end, and the tags
 -- in use follow. Assumes nothing.
-use Prim.Native.Nat.{ℕ, suc, ◌+◌, ◌-◌, ◌*◌, ◌/◌, ◌^◌, ◌≤◌, ◌<◌, min}
-use mathlib.Core.Bool.{Bool, true, false, cond, ◌&&◌}
+use Prim.Native.Nat.{ℕ, suc, ◌+◌, ◌*◌, ◌^◌, ◌≤◌, ◌<◌, min}
+use mathlib.Core.Bool.{Bool, true, cond, ◌&&◌}
 use mathlib.Core.List.{List, [], ◌∷◌}
 use mathlib.Core.Logic.{◌⊎◌, inl, inr, ◌↔◌}
 use mathlib.Core.Path.{◌≡◌, refl, sym, ap, subst, ◌∙◌}
@@ -13,18 +13,18 @@ use lib.Pow.{pow-lt, suc_ones}
 use Rattle.laws.specs.Tags.{digit}
 use Rattle.laws.proofs.Tags.{digit_zero, added, sum_small, one_own, one_other}
 use Rattle.laws.proofs.Tests.{same_or_not}
-use Rattle.write.specs.Rules.{end_of, range_of, until}
+use Rattle.write.specs.Rules.{end_of, until}
 use Rattle.write.specs.Steps.{with, started, free}
 use Rattle.write.specs.Grounds.{InRange}
 use Rattle.write.proofs.Picks.{picked}
 use Rattle.write.specs.declared.Write.{Write}
 use Rattle.write.specs.declared.Phase.{Phase}
-use Rattle.write_history.specs.History.{Request, Xfer, Data, View, Fate, none, due, good, failed, full, nothing, fated, with_fate, awaits, taken_by, takes, take_into, end_of_data, end_of_xfer, note, asked, acked, came, Among}
-use Rattle.write_history.specs.Log.{request_of, xfer_of}
+use Rattle.write_history.specs.History.{Xfer, Data, View, Fate, due, good, failed, full, nothing, fated, with_fate, awaits, taken_by, takes, take_into, end_of_data, end_of_xfer, note, asked, acked, came, Among}
+use Rattle.write_history.specs.Log.{xfer_of}
 use Rattle.write_history.specs.Demand.{last_end, EndToEnd, ranges}
-use Rattle.write_history.proofs.Alike.{AlikeXfer, AlikeData}
+use Rattle.write_history.proofs.Alike.{AlikeXfer}
 use Rattle.write_history.proofs.Ranges.{Lies, quotient, range_is, begins}
-use Rattle.write_history.proofs.Invariant.{Latest, Open, Before, first, again, on, Asking, Waiting, Taking, Live, Inv}
+use Rattle.write_history.proofs.Invariant.{Latest, Open, first, again, on, Asking, Waiting, Taking, Live, Inv}
 
 -- no tag is in use
 none_busy : (t : ℕ) → (digit 0 t ≡ 1) ↔ ⊥

@@ -9,7 +9,6 @@ use Rattle.laws.proofs.Bools.{never, impossible}
 use Rattle.refusals.specs.declared.Refusal.{Refusal}
 use Rattle.write.specs.Rules.{end_of}
 use Rattle.write.specs.Steps.{refused, unfinished}
-use Rattle.write.specs.Calls.{Call}
 use Rattle.write.specs.Grounds.{Unfinished}
 use Rattle.write.specs.declared.Write.{Write}
 use Rattle.write.specs.declared.Stepped.{Stepped}

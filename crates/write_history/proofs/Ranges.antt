@@ -1,9 +1,9 @@
 -- Where a byte lies among the ranges: q whole ranges behind B, and less than one more, which decides q. Assumes nothing.
-use Prim.Native.Nat.{ℕ, suc, ◌+◌, ◌-◌, ◌*◌, ◌/◌, ◌≤◌, ◌<◌, min}
-use mathlib.Core.Path.{◌≡◌, sym, ap, ◌∙◌}
+use Prim.Native.Nat.{ℕ, ◌+◌, ◌-◌, ◌*◌, ◌/◌, ◌≤◌, ◌<◌}
+use mathlib.Core.Path.{◌≡◌, ap}
 use native.Mathlib.Nat.{div-mul-le_self, lt-div-mul-add, div-eq_of_lt-le, le-div_iff_mul-le}
 use native.Mathlib.Omega.{arith}
-use Rattle.write.specs.Rules.{end_of, range_of, until}
+use Rattle.write.specs.Rules.{end_of, range_of}
 use Rattle.write.specs.declared.Write.{Write}
 use Rattle.write_history.specs.Demand.{ranges}
 

@@ -1,5 +1,5 @@
 -- Two writes of one port side by side, their calls in any order, each XFER given at least the other's tags. Assumes nothing.
-use Rattle.std.specs.Prelude.{ℕ, ◌≤◌, Bool, true, false, List, [], ◌∷◌, ◌≡◌}
+use Rattle.std.specs.Prelude.{ℕ, ◌≤◌, List, [], ◌∷◌, ◌≡◌}
 use Rattle.laws.specs.Tags.{digit}
 use Rattle.write.specs.Rules.{unstarted}
 use Rattle.write.specs.Calls.{Call, start, xfer, ack, nak, timeout, lost, got, nexus, cancel, step_of, Typed}

@@ -1,12 +1,12 @@
 -- What request c) asks of a write, sentence by sentence: of a write s with the history h, and of one call more, answered `next`, that adds
 -- the entries es. Assumes nothing.
-use Rattle.std.specs.Prelude.{ℕ, ◌+◌, ◌-◌, ◌/◌, ◌≤◌, ◌<◌, min, Bool, true, false, List, [], ◌∷◌, ◌++◌, ◌⊎◌, ◌↔◌, ◌≡◌, length}
+use Rattle.std.specs.Prelude.{ℕ, ◌+◌, ◌-◌, ◌/◌, ◌≤◌, ◌<◌, min, true, false, List, [], ◌∷◌, ◌++◌, ◌⊎◌, ◌↔◌, ◌≡◌, length}
 use Rattle.laws.specs.Tags.{digit}
 use Rattle.write.specs.Steps.{unfinished}
 use Rattle.write.specs.declared.Write.{Write}
 use Rattle.write.specs.declared.Stepped.{Stepped}
 use Rattle.write.specs.declared.Answer.{Answer}
-use Rattle.write_history.specs.History.{Request, Xfer, Data, Entry, asked, acked, nacked, timed_out, was_lost, came, Fate, none, due, good, failed, full, View, view, takes, end_of_data, end_of_xfer, Among}
+use Rattle.write_history.specs.History.{Request, Xfer, Data, Entry, asked, acked, nacked, timed_out, was_lost, came, due, good, failed, View, view, takes, end_of_data, end_of_xfer, Among}
 use Rattle.write_history.specs.Words.{word_by, underway}
 use Rattle.write_history.specs.Log.{request_of}
 

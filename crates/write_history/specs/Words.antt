@@ -1,8 +1,8 @@
 -- What a call that is taken answers, and whether the write goes on, a second time: by the history before it and the entry that it adds. No state is
 -- read here. Assumes nothing.
-use Rattle.std.specs.Prelude.{ℕ, ◌+◌, Bool, true, false, not, cond, List, [], ◌∷◌, leb, eqb}
+use Rattle.std.specs.Prelude.{◌+◌, Bool, true, false, not, cond, List, [], ◌∷◌, leb, eqb}
 use Rattle.write.specs.declared.Answer.{Answer}
-use Rattle.write_history.specs.History.{Request, Xfer, Data, Entry, started, asked, acked, nacked, timed_out, was_lost, came, ended, View, view, takes, end_of_data, end_of_xfer}
+use Rattle.write_history.specs.History.{Xfer, Data, Entry, started, asked, acked, nacked, timed_out, was_lost, came, ended, View, view, takes, end_of_data, end_of_xfer}
 
 -- every retry was used
 abbrev pub spent : View → Bool

@@ -38,6 +38,7 @@ pub struct Step {
     pub answer: u8,
 }
 
+#[tactic(auto, unfolding(write::specs::Calls::step_of))]
 impl State {
     // START: offset B, count N, X bytes by one XFER_RDY at most, R retries.
     pub fn start(self, offset: u32, count: u32, burst: u32, resends: u32) -> Step

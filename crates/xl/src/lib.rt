@@ -57,6 +57,7 @@ fn works(p: Phase) -> bool
     }
 }
 
+#[tactic(auto, unfolding(crate::specs::Rules::keeps_rules))]
 fn keeps_rules(s: State) -> bool
     ensures { result ≡ keeps_rules s }
 {
@@ -109,6 +110,7 @@ pub fn brings_unlisted(e: Event, f: OpenFrame) -> bool
 }
 
 // Tests the event and the state, and takes the event.
+#[tactic(auto, unfolding(crate::specs::Steps::step_of))]
 fn step_of(s: State, e: Event, f: OpenFrame) -> Stepped
     ensures { result ≡ step_of f e s }
 {
@@ -182,6 +184,7 @@ fn reason(read: OpenRead) -> Refusal
 
 // 01 FORM.4: The XL step takes the reader's enum apart by let .. else and returns the refusal number.
 // An OPEN received, as bytes.
+#[tactic(auto, unfolding(crate::specs::Steps::receive_of))]
 pub fn receive(state: State, bytes: &[u8]) -> Stepped
     ensures { result ≡ receive_of bytes.now state }
 {
@@ -225,6 +228,7 @@ fn in_phase(p: Phase, a: Seen) -> LinkStatus
 }
 
 // The link status.
+#[tactic(auto, unfolding(crate::specs::Status::status_of))]
 pub fn status(state: State) -> LinkStatus
     ensures { result ≡ status_of state }
 {

@@ -42,7 +42,7 @@ use Rattle.xl_calls.specs.Links.{Call, event, bytes, call_of, run}
 use Rattle.xl_calls.specs.After.{after}
 use Rattle.xl_calls.specs.Faces.{FaceCall, numbers, frame, face_of, face_run, named, makes, made}
 use Rattle.xl_calls.proofs.Links.{Fielded, good_of, of_good, fields_given, rules_given, by_call}
-use Rattle.xl_calls.proofs.Kept.{good_after, kept, ready_keeps}
+use Rattle.xl_calls.proofs.Kept.{good_after, ready_keeps}
 
 -- ---- a link whose numbers say a state that keeps the rules
 

@@ -114,7 +114,7 @@ in_right : (xs : List OpenFrame) {ys : List OpenFrame} {g : OpenFrame} → In g 
 in_right [] i = i
 in_right (x ∷ xs) i = there (in_right xs i)
 
-in_left : {xs : List OpenFrame} (ys : List OpenFrame) {g : OpenFrame} → In g xs → In g (xs ++ ys)
+in_left : {g : OpenFrame} (ys : List OpenFrame) {xs : List OpenFrame} → In g xs → In g (xs ++ ys)
 in_left ys here = here
 in_left ys (there i) = there (in_left ys i)
 

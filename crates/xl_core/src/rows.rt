@@ -91,6 +91,7 @@ fn remembered(s: State, m: Memory) -> Stepped
     crossed(s, g)
 }
 
+#[tactic(auto, using(xl_parts::proofs::Effects::pushes))]
 pub(crate) fn sent_in_5(s: State) -> Stepped
     ensures { result ≡ done (sent_in5 s) }
 {

@@ -1,9 +1,8 @@
 -- A link whose numbers say a state meets the machine's own step, which refuses an unlisted frame before it looks at the state, as C is
 -- told. Assumes nothing.
 use mathlib.Core.Bool.{Bool, true, false, not, cond, ◌&&◌}
-use mathlib.Core.Path.{◌≡◌, refl, sym, ap}
+use mathlib.Core.Path.{◌≡◌, refl, ap}
 use Rattle.laws.proofs.Bools.{impossible}
-use Rattle.refusals.specs.Causes.{Cause, ◌when◌, refuse}
 use Rattle.refusals.specs.Refusals.{number_of}
 use Rattle.refusals.specs.declared.Refusal.{Refusal}
 use Rattle.open_frame.specs.Open.{head_listed}

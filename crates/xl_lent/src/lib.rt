@@ -172,6 +172,7 @@ fn well_held(there: u8, o: Open) -> bool
 }
 
 // Whether the numbers say a state.
+#[tactic(auto, unfolding(crate::specs::Lent::formed))]
 fn formed(l: Link) -> bool
     ensures { result ≡ lent.formed l }
 {
@@ -248,6 +249,7 @@ fn told(l: Link, r: Stepped) -> Step
 }
 
 // An event that is named meets l. The step tests the frame itself, before it tests the state.
+#[tactic(auto, using(crate::proofs::Laws::met_formed, crate::proofs::Laws::met_unlisted, crate::proofs::Laws::met_malformed))]
 fn met(l: Link, e: Event, f: OpenFrame) -> Step
     ensures { result ≡ face.met l e f }
 {
@@ -261,6 +263,7 @@ fn met(l: Link, e: Event, f: OpenFrame) -> Step
 }
 
 // One event, one step. The frame is looked at only where one goes with the event.
+#[tactic(auto, unfolding(crate::specs::Face::link_event))]
 pub fn link_event(l: Link, c: Code, o: Open) -> Step
     ensures { result ≡ link_event l c o }
 {
@@ -272,6 +275,7 @@ pub fn link_event(l: Link, c: Code, o: Open) -> Step
 }
 
 // An OPEN received, as bytes.
+#[tactic(auto, unfolding(crate::specs::Face::link_receive))]
 pub fn link_receive(l: Link, bytes: &[u8]) -> Step
     ensures { result ≡ link_receive l bytes.now }
 {
@@ -283,6 +287,7 @@ pub fn link_receive(l: Link, bytes: &[u8]) -> Step
 }
 
 // 48 to 51, or 3.
+#[tactic(auto, unfolding(crate::specs::Face::link_status))]
 pub fn link_status(l: Link) -> u8
     ensures { result ≡ link_status l }
 {

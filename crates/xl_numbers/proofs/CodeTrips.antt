@@ -1,15 +1,14 @@
 -- Every event that a code names is a member of its group's list, in the place of its kind, with its detail; an action is said as the event
 -- that another link hears. Assumes nothing.
 use Prim.Native.Nat.{ℕ, ◌-◌, ◌≤◌, ◌<◌}
-use mathlib.Core.Bool.{Bool, true, false, cond, ◌&&◌}
-use mathlib.Core.List.{List}
-use mathlib.Core.Path.{◌≡◌, refl, sym, ap, ◌∙◌}
+use mathlib.Core.Bool.{true, false, ◌&&◌}
+use mathlib.Core.Path.{◌≡◌, refl, ap, ◌∙◌}
 use native.Mathlib.Omega.{arith}
 use lib.Dec.{eqb, ltb}
 use borrow.Author.Tests.{ltb-true, ltb-false, eqb-true, eqb-false, lt-ltb}
 use Rattle.laws.specs.Names.{Named}
 use Rattle.laws.proofs.Bools.{by_test, and_left, and_right}
-use Rattle.laws.proofs.Places.{Each, each_at}
+use Rattle.laws.proofs.Places.{each_at}
 use Rattle.xl_parts.specs.declared.Primitive.{Primitive}
 use Rattle.xl_parts.specs.declared.Message.{Message}
 use Rattle.xl_parts.specs.declared.Confirmation.{Confirmation}
@@ -22,7 +21,7 @@ use Rattle.xl_parts.specs.declared.Action.{Action}
 use Rattle.xl_numbers.specs.declared.codes.Code.{Code}
 use Rattle.xl_numbers.specs.declared.codes.EventRead.{EventRead}
 use Rattle.xl_numbers.specs.declared.codes.ActionRead.{ActionRead}
-use Rattle.xl_numbers.specs.Codes.{coded, primitive_number, message_number, event_number, up_to, line_events, router_events, manager_events, own_events, from_line, from_router, from_manager, own, event_of, said, action_number, heard, action_of}
+use Rattle.xl_numbers.specs.Codes.{coded, event_number, up_to, line_events, router_events, manager_events, own_events, from_line, from_router, from_manager, own, event_of, said, action_number, heard, action_of}
 use Rattle.xl_numbers.proofs.KindTrips.{wait_back, wait_at, reject_back, reject_at, denial_back, denial_at, arbitration_back, arbitration_at}
 
 -- the code is that of whatever event is named

@@ -8,7 +8,6 @@ use native.Mathlib.Omega.{arith}
 use lib.ListN.{get_or}
 use Rattle.laws.specs.Names.{Named}
 use Rattle.laws.proofs.Names.{in_reads}
-use Rattle.refusals.specs.Refusals.{number_of}
 use Rattle.refusals.specs.declared.Refusal.{Refusal}
 use Rattle.refusals.proofs.Numbers.{one_number, range}
 use Rattle.xl_parts.specs.declared.Phase.{Phase}

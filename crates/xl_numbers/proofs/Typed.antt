@@ -1,7 +1,6 @@
 -- Each table gives the numbers that are typed, by its definition. Assumes nothing.
-use Prim.Native.Nat.{ℕ}
 use mathlib.Core.Path.{◌≡◌, refl}
-use mathlib.Core.List.{List, [], ◌∷◌, map}
+use mathlib.Core.List.{[], ◌∷◌, map}
 use Rattle.xl_parts.specs.Parts.{phase_number}
 use Rattle.xl_numbers.specs.Details.{wait_number, reject_number, denial_number, arbitration_number}
 use Rattle.xl_numbers.specs.States.{aip_number, status_number}

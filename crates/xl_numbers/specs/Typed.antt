@@ -1,6 +1,6 @@
 -- The numbers of the link a second time, typed: each kind beside its event, with the first of its details, and the details in document
 -- 01's order. Assumes nothing.
-use Rattle.std.specs.Prelude.{ℕ, true, false, List, [], ◌∷◌}
+use Rattle.std.specs.Prelude.{true, false, List, [], ◌∷◌}
 use Rattle.xl_parts.specs.declared.Phase.{Phase}
 use Rattle.xl_parts.specs.declared.Wait.{Wait}
 use Rattle.xl_parts.specs.declared.Reject.{Reject}

@@ -195,6 +195,7 @@ fn own(kind: u8, detail: u8) -> EventRead
     }
 }
 
+#[tactic(auto, unfolding(crate::specs::Codes::event_of))]
 pub fn event_of(c: Code) -> EventRead
     ensures { result ≡ event_of c }
 {
@@ -253,6 +254,7 @@ pub fn action_number(a: Action) -> Code
     }
 }
 
+#[tactic(auto, unfolding(crate::specs::Codes::action_of))]
 pub fn action_of(c: Code) -> ActionRead
     ensures { result ≡ action_of c }
 {

@@ -1,0 +1,21 @@
+// The archive that C links: each call that include/sonerwal.h declares, exported under its name. An export calls the function of the crate sonerwal
+// and promises what that promises.
+#![tactic(auto)]
+
+ghost use Rattle.std.specs.Prelude.{◌≡◌};
+ghost use Rattle.sonerwal.specs.Face as face;
+
+mod frames;
+mod link;
+mod ports;
+mod replies;
+mod transfer;
+mod writes;
+
+// Of the archive; the header has its own.
+#[unsafe(no_mangle)]
+pub extern "C" fn sonerwal_version() -> u32
+    ensures { result ≡ face.version }
+{
+    sonerwal::sonerwal_version()
+}
