@@ -1,4 +1,4 @@
--- The walks of the lent list, each over any step.
+-- What the walks of the lent list fold, each over any step.
 pub mod FoldFrom
 pub mod Survey
 pub mod Leave
