@@ -86,6 +86,7 @@ recast s x so (later a (here h)) = later a (here h)
 recast s x so (later a (later b (here h))) = later a (later b (here h))
 recast s x so (later a (later b (later c (here h)))) = later a (later b (later c (here h)))
 recast s x so (later a (later b (later c (later d (here h))))) = later a (later b (later c (later d (here (so (kept_unless s c) h)))))
+recast s x {P} {Q} so {k} (later a (later b (later c (later d (later _ none))))) = elim none [ ]
 
 pub tested : (c : Call) (s : State) → Tested c s
 unfolding causes_of

@@ -1,8 +1,7 @@
 -- The calls over the lent list: what they share, and what the scans find.
-pub mod Rows
 mod Turns
 mod Still
-mod Call
+mod Steps
 pub mod Scanned
 pub mod Promised
 pub mod Found

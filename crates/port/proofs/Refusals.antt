@@ -8,7 +8,7 @@ use mathlib.Core.Logic.{◌↔◌}
 use lib.Dec.{eqb}
 use lib.ListN.{length, get_or}
 use Rattle.laws.proofs.Bools.{never}
-use Rattle.refusals.specs.Causes.{Cause, ◌when◌, refuse, First, later}
+use Rattle.refusals.specs.Causes.{Cause, ◌when◌, refuse, First}
 use Rattle.refusals.specs.declared.Refusal.{Refusal}
 use Rattle.refusals.proofs.Causes as causes
 use Rattle.port_parts.specs.Parts.{blank, is_waiting, is_opening, names}

@@ -16,9 +16,9 @@ use Rattle.port_parts.specs.declared.Pick.{Pick}
 use Rattle.port_parts.specs.declared.Port.{Port}
 use Rattle.port_parts.specs.declared.Request.{Request}
 use Rattle.port_rules.specs.Kept.{Free, Present}
-use Rattle.port_rows.specs.Calls.{phy_at, is_cancelled, cancelled}
+use Rattle.port_rows.specs.Calls.{phy_at, is_cancelled}
 use Rattle.port_rows.specs.declared.Done.{Done}
-use Rattle.port.specs.History.{State, Call, closed, done_of, is_refused, is_last}
+use Rattle.port.specs.History.{State, Call, done_of, is_refused, is_last}
 use Rattle.port_invariant.proofs.Ways.{waits}
 use Rattle.port_history.specs.Standing.{is_setup}
 use Rattle.port_history.specs.Turns.{Lawful}

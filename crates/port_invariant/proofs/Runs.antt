@@ -53,6 +53,7 @@ NoneFor k [] = Unit {0}
 NoneFor k (g ∷ gs) = Denied (eqb (number_of g.refusal) (number_of k)) g.holds × NoneFor k gs
 
 not_first : (k : Refusal) (gs : List Ground) → NoneFor k gs → First gs k → ⊥
+not_first k [] off none = elim none [ ]
 not_first k (g ∷ gs) off (here h) = subst (λ (t : Bool). Denied t g.holds) (eq-eqb (number_of k) (number_of k) refl) off.0 h
 not_first k (g ∷ gs) off (later n f) = not_first k gs off.1 f
 

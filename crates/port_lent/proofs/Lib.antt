@@ -3,7 +3,3 @@ pub mod Eights
 pub mod Words
 pub mod Trips
 pub mod Runs
-pub mod Rows
-pub mod Hands
-pub mod Setup
-pub mod Through

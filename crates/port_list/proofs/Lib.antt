@@ -1,9 +1,4 @@
--- The walks of the lent list, each proved once.
-pub mod Arg
-pub mod Rec
-pub mod Callees
-pub mod Shared
+-- What the walks of the lent list fold, each over any step.
 pub mod FoldFrom
 pub mod Survey
 pub mod Leave
-pub mod Lent
