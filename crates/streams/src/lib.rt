@@ -6,6 +6,7 @@
 
 ghost use Rattle.std.specs.Prelude.{◌≡◌, ◌≤◌, ◌<◌, ℕ, length, take, true, false, IfOk, OnErr};
 ghost use Rattle.std.specs.Io.KnownBytes.{Appends, Consumes, Keeps, IsAtEnd};
+ghost use Rattle.streams.specs.Counts.{IsPrefixLen};
 
 use std::alloc::{AllocError, Global};
 use std::io;
@@ -26,7 +27,7 @@ pub fn read<R: Read, E: Write>(
     said: &mut E,
     alloc: Global,
 ) -> Got
-    ensures bound { result.bytes ≤ length buf.new }
+    ensures bound { IsPrefixLen result.bytes buf.new }
     ensures taken { Consumes (R.remaining from.old) (R.remaining from.new) (take result.bytes buf.new) }
     ensures ended { result.failed ≡ false → result.bytes ≡ 0 → 0 < length buf.old → IsAtEnd (R.remaining from.new) }
     ensures silent { result.failed ≡ false → Keeps (E.contents said.old) (E.contents said.new) }
