@@ -5,8 +5,6 @@ ghost use Rattle.open_frame.specs.Wait.{wait_value};
 ghost use Rattle.sonerwal.specs.Face.{open9, open_lent, data_lent, data_given, reading, writing, OpenReads, OpenWrites, DataReads, DataWrites, open_higher};
 ghost use Rattle.sonerwal.specs.Face.{xfer8, xfer_lent, XferReads, XferWrites, out_lent, out_given, OutReads, OutWrites, response_lent, response_given, ResponseReads, ResponseWrites};
 
-use ssp_frame::data;
-
 // 01 FORM.3: extern "C" functions over byte slices and numbers for OPEN and DATA frames.
 // Fills the nine numbers with the fields of the OPEN frame in frame.
 #[unsafe(no_mangle)]
@@ -24,7 +22,18 @@ pub extern "C" fn sonerwal_open_read(
 ) -> u8
     ensures { OpenReads (reading frame.now (open_lent initiator protocol features rate tag destination source pbc awt) result) }
 {
-    sonerwal::frames::sonerwal_open_read(frame, initiator, protocol, features, rate, tag, destination, source, pbc, awt)
+    sonerwal::frames::sonerwal_open_read(
+        frame,
+        initiator,
+        protocol,
+        features,
+        rate,
+        tag,
+        destination,
+        source,
+        pbc,
+        awt,
+    )
 }
 
 // Writes the 28 bytes of an OPEN frame with these fields into frame.
@@ -43,7 +52,18 @@ pub extern "C" fn sonerwal_open_write(
 ) -> u8
     ensures { OpenWrites (writing (open9 initiator protocol features rate tag destination source pbc awt) frame result) }
 {
-    sonerwal::frames::sonerwal_open_write(initiator, protocol, features, rate, tag, destination, source, pbc, awt, frame)
+    sonerwal::frames::sonerwal_open_write(
+        initiator,
+        protocol,
+        features,
+        rate,
+        tag,
+        destination,
+        source,
+        pbc,
+        awt,
+        frame,
+    )
 }
 
 // Fills the six numbers with the fields of the DATA frame in frame and the length of its data, which starts at byte 24.
@@ -93,7 +113,17 @@ pub extern "C" fn sonerwal_xfer_rdy_read(
 ) -> u8
     ensures { XferReads (reading frame.now (xfer_lent destination source retransmit retry tag transfer offset length) result) }
 {
-    sonerwal::frames::sonerwal_xfer_rdy_read(frame, destination, source, retransmit, retry, tag, transfer, offset, length)
+    sonerwal::frames::sonerwal_xfer_rdy_read(
+        frame,
+        destination,
+        source,
+        retransmit,
+        retry,
+        tag,
+        transfer,
+        offset,
+        length,
+    )
 }
 
 // Writes the 36 bytes of an XFER_RDY frame with these fields to the front of frame.
@@ -111,7 +141,17 @@ pub extern "C" fn sonerwal_xfer_rdy_write(
 ) -> u8
     ensures { XferWrites (writing (xfer8 destination source retransmit retry tag transfer offset length) frame result) }
 {
-    sonerwal::frames::sonerwal_xfer_rdy_write(destination, source, retransmit, retry, tag, transfer, offset, length, frame)
+    sonerwal::frames::sonerwal_xfer_rdy_write(
+        destination,
+        source,
+        retransmit,
+        retry,
+        tag,
+        transfer,
+        offset,
+        length,
+        frame,
+    )
 }
 
 // Fills the seven numbers with the fields of the data out frame in frame and the length of its data, which starts at byte 24.
@@ -128,7 +168,16 @@ pub extern "C" fn sonerwal_data_out_read(
 ) -> u8
     ensures { OutReads (reading frame.now (out_lent destination source changing tag transfer offset length) result) }
 {
-    sonerwal::frames::sonerwal_data_out_read(frame, destination, source, changing, tag, transfer, offset, length)
+    sonerwal::frames::sonerwal_data_out_read(
+        frame,
+        destination,
+        source,
+        changing,
+        tag,
+        transfer,
+        offset,
+        length,
+    )
 }
 
 // Writes the data out frame with these fields and the data in body to the front of frame.
@@ -145,7 +194,16 @@ pub extern "C" fn sonerwal_data_out_write(
 ) -> u8
     ensures { OutWrites (writing (out_given destination source changing tag transfer offset body.now) frame result) }
 {
-    sonerwal::frames::sonerwal_data_out_write(destination, source, changing, tag, transfer, offset, body, frame)
+    sonerwal::frames::sonerwal_data_out_write(
+        destination,
+        source,
+        changing,
+        tag,
+        transfer,
+        offset,
+        body,
+        frame,
+    )
 }
 
 // Fills the seven numbers with the fields of the RESPONSE frame in frame and the length of its data, which starts at byte 48.
@@ -162,7 +220,16 @@ pub extern "C" fn sonerwal_response_read(
 ) -> u8
     ensures { ResponseReads (reading frame.now (response_lent destination source retransmit tag present status length) result) }
 {
-    sonerwal::frames::sonerwal_response_read(frame, destination, source, retransmit, tag, present, status, length)
+    sonerwal::frames::sonerwal_response_read(
+        frame,
+        destination,
+        source,
+        retransmit,
+        tag,
+        present,
+        status,
+        length,
+    )
 }
 
 // Writes the RESPONSE frame with these fields and the data in body to the front of frame.
@@ -179,7 +246,16 @@ pub extern "C" fn sonerwal_response_write(
 ) -> u8
     ensures { ResponseWrites (writing (response_given destination source retransmit tag present status body.now) frame result) }
 {
-    sonerwal::frames::sonerwal_response_write(destination, source, retransmit, tag, present, status, body, frame)
+    sonerwal::frames::sonerwal_response_write(
+        destination,
+        source,
+        retransmit,
+        tag,
+        present,
+        status,
+        body,
+        frame,
+    )
 }
 
 // 01 OPEN.7

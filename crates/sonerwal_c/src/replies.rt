@@ -74,5 +74,14 @@ pub extern "C" fn sonerwal_reply_respond(
 ) -> Step
     ensures { Responded s destination source tag present status body.now frame.old result frame.new }
 {
-    sonerwal::replies::sonerwal_reply_respond(s, destination, source, tag, present, status, body, frame)
+    sonerwal::replies::sonerwal_reply_respond(
+        s,
+        destination,
+        source,
+        tag,
+        present,
+        status,
+        body,
+        frame,
+    )
 }
