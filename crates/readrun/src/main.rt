@@ -2,12 +2,16 @@
 // `runs::feed`'s; here are only the reads and the writes. What fails is said on standard error (crates/streams), and ends it.
 #![tactic(auto)]
 
-ghost use Rattle.std.specs.Prelude.{true, ◌≡◌, ◌≤◌, length};
-ghost use Rattle.io.specs.Counts.{IsPrefixLen};
+ghost use Rattle.std.specs.Prelude.{true, false, ◌≡◌, ◌≤◌, ◌<◌, length, take, IfSome};
+ghost use Rattle.std.specs.Io.KnownBytes.{Appends, Consumes, Keeps, IsAtEnd};
+ghost use Rattle.streams.specs.Counts.{IsPrefixLen};
 ghost use Rattle.runs.specs.Rows.{longest_row};
-ghost use Rattle.runs.specs.Feed.{carry_of, after};
+ghost use Rattle.runs.specs.Feed.{run_of, carry_of, after, said};
+ghost use Rattle.runs.specs.Output.{output_of};
 
 use runs::Run;
+use std::alloc::Global;
+use std::io::{Read, Write};
 use streams::Got;
 
 #[derive(Clone, Copy)]
@@ -17,22 +21,38 @@ struct Went {
     open: bool,
 }
 
-// Reads some of standard input.
-fn get(input: &mut [u8]) -> Got
-    ensures { IsPrefixLen result.bytes input.new }
+// Reads some of the input.
+fn get<R: Read, E: Write>(from: &mut R, input: &mut [u8], err: &mut E, alloc: Global) -> Got
+    ensures bound { IsPrefixLen result.bytes input.new }
+    ensures taken { Consumes (R.remaining from.old) (R.remaining from.new) (take result.bytes input.new) }
+    ensures ended { result.failed ≡ false → result.bytes ≡ 0 → 0 < length input.old → IsAtEnd (R.remaining from.new) }
+    ensures silent { result.failed ≡ false → Keeps (E.contents err.old) (E.contents err.new) }
 {
-    streams::read(libc::STDIN_FILENO, input, b"readrun: reading")
+    streams::read(from, input, b"readrun: reading", err, alloc)
 }
 
-// Writes to standard output, and answers whether all of it was taken.
-fn put(bytes: &[u8]) -> bool {
-    streams::write(libc::STDOUT_FILENO, bytes, b"readrun: writing")
+// Writes to the output, and answers whether all of it was taken.
+fn put<W: Write, E: Write>(to: &mut W, bytes: &[u8], err: &mut E, alloc: Global) -> bool
+    ensures all { result ≡ true → Appends (W.contents to.old) (W.contents to.new) bytes.now }
+    ensures silent { result ≡ true → Keeps (E.contents err.old) (E.contents err.new) }
+{
+    streams::write(to, bytes, b"readrun: writing", err, alloc)
 }
 
 // Feeds a whole block, and writes what comes.
-fn block(run: Run, input: &[u8], out: &mut [u8]) -> Went
+fn block<W: Write, E: Write>(
+    run: Run,
+    input: &[u8],
+    out: &mut [u8],
+    to: &mut W,
+    err: &mut E,
+    alloc: Global,
+) -> Went
     requires { longest_row ≤ length out.old }
-    ensures { result.open ≡ true → carry_of result.run ≡ after (carry_of run) input.now }
+    ensures carries { result.open ≡ true → carry_of result.run ≡ after (carry_of run) input.now }
+    ensures says { result.open ≡ true → Appends (W.contents to.old) (W.contents to.new) (said (carry_of run) input.now) }
+    ensures kept { run ≡ run_of (carry_of run) → result.run ≡ run_of (carry_of result.run) }
+    ensures silent { result.open ≡ true → Keeps (E.contents err.old) (E.contents err.new) }
 {
     let mut now = run;
     let mut from = 0;
@@ -40,7 +60,7 @@ fn block(run: Run, input: &[u8], out: &mut [u8]) -> Went
         let fed = runs::feed(now, &input[from..], out);
         now = fed.run;
         let wrote = fed.wrote;
-        if !put(&out[..wrote]) {
+        if !put(to, &out[..wrote], err, alloc) {
             return Went {
                 run: now,
                 open: false,
@@ -55,36 +75,52 @@ fn block(run: Run, input: &[u8], out: &mut [u8]) -> Went
 }
 
 // Reads to the end of the input, or until a read or a write fails. A read that fails is not the end: a line that had begun stays
-// without an answer.
-fn all(input: &mut [u8], out: &mut [u8])
+// without an answer. Answers whether all was read and all that there is to say was taken.
+fn all<R: Read, W: Write, E: Write>(
+    from: &mut R,
+    to: &mut W,
+    err: &mut E,
+    alloc: Global,
+    input: &mut [u8],
+    out: &mut [u8],
+) -> bool
     requires { longest_row ≤ length out.old }
+    ensures prints { result ≡ true → 0 < length input.old → IfSome (R.remaining from.old) (λ xs. Appends (W.contents to.old) (W.contents to.new) (output_of xs)) }
+    ensures silent { result ≡ true → Keeps (E.contents err.old) (E.contents err.new) }
 {
     let mut run = runs::fresh();
+    let mut ended = false;
     // A proved loop has to end, and nothing says that the input does.
-    let mut turns = u64::MAX;
-    while turns > 0 {
-        let got = get(input);
+    for _ in 0..u64::MAX {
+        let got = get(from, input, err, alloc);
         if got.failed {
-            return;
+            return false;
         }
         let n = got.bytes;
         if n == 0 {
+            ended = true;
             break;
         }
-        let went = block(run, &input[..n], out);
+        let went = block(run, &input[..n], out, to, err, alloc);
         if !went.open {
-            return;
+            return false;
         }
         run = went.run;
-        turns -= 1;
     }
     let last = runs::close(run, out);
     let wrote = last.wrote;
-    put(&out[..wrote]);
+    put(to, &out[..wrote], err, alloc) & ended
 }
 
-fn main() {
-    let mut input = io::large_buffer();
-    let mut out = io::large_buffer();
-    all(&mut input, &mut out);
+fn main(rt: HostRuntime) {
+    let mut input = [0u8; 65536];
+    let mut out = [0u8; 65536];
+    all(
+        &mut rt.stdin(),
+        &mut rt.stdout(),
+        &mut rt.stderr(),
+        rt.alloc(),
+        &mut input,
+        &mut out,
+    );
 }

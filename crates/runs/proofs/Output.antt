@@ -128,3 +128,39 @@ module _ (run : Run) (input out : List ℕ) (from : ℕ) (r : Fed) (out' : List 
       ∙ after_append (carry_of run) (take n (drop from input)) (drop n (drop from input))
       ∙ ap (λ (c : Carry). after c (drop n (drop from input))) (sym (ap (λ (x : Fed). carry_of x.run) rest.answer ∙ carried (after (carry_of run) (take n (drop from input)))))
       ∙ ap (after (carry_of r.run)) (drop-drop n from input ∙ ap (λ (k : ℕ). drop (from + k) input) (sym (taken rest)))
+
+  pub turn_says : said (carry_of run) (drop from input) ≡ take r.wrote out' ++ said (carry_of r.run) (drop (from + r.used) input)
+  turn_says =
+      let front = take n (drop from input) in
+      let wrote : take r.wrote out' ≡ said (carry_of run) front = (λ i. take (rest.answer i).wrote (rest.bytes i)) ∙ take-append_seam (said (carry_of run) front) (drop (length (said (carry_of run) front)) out) in
+      let carries : carry_of r.run ≡ after (carry_of run) front = ap (λ (x : Fed). carry_of x.run) rest.answer ∙ carried (after (carry_of run) front) in
+      ap (said (carry_of run)) (sym (take-append-drop n (drop from input)))
+      ∙ said_append (carry_of run) front (drop n (drop from input))
+      ∙ (λ i. sym wrote i ++ said (sym carries i) (drop n (drop from input)))
+      ∙ ap (λ (s : List ℕ). take r.wrote out' ++ said (carry_of r.run) s) (drop-drop n from input ∙ ap (λ (k : ℕ). drop (from + k) input) (sym (taken rest)))
+
+  -- a run that was fed is one of what it carries
+  pub turn_kept : r.run ≡ run_of (carry_of r.run)
+  turn_kept =
+      let is : r.run ≡ run_of (after (carry_of run) (take n (drop from input))) = ap (λ (x : Fed). x.run) rest.answer in
+      is ∙ sym (ap (λ (x : Run). run_of (carry_of x)) is ∙ ap run_of (carried (after (carry_of run) (take n (drop from input)))))
+
+-- with room for a row the last line is taken
+pub all_closed : (room : ℕ) (c : Carry) (len : ℕ) → longest_row ≤ room → take (takes room c (closing len)) (closing len) ≡ closing len
+all_closed room c len h = by (eqb len 0)
+  where
+    by : (t : Bool) → take (takes room c (cond t [] (lf ∷ []))) (cond t [] (lf ∷ [])) ≡ cond t [] (lf ∷ [])
+    by true = refl
+    by false = ap (λ (u : Bool). take (cond u 0 1) (lf ∷ [])) (le-ltb room longest_row h)
+
+-- what a run says of the end of its input
+pub closes : (c : Carry) {run : Run} {out : List ℕ} {r : Fed} {out' : List ℕ} → run ≡ run_of c → longest_row ≤ length out → Feeds run (closing run.len) out r out'
+    → take r.wrote out' ≡ said c (closing (length c.begun))
+closes c {run} {out} {r} {out'} is room f =
+    let all = all_closed (length out) (carry_of run) run.len room in
+    let front = take (takes (length out) (carry_of run) (closing run.len)) (closing run.len) in
+    (λ i. take (f.answer i).wrote (f.bytes i))
+    ∙ take-append_seam (said (carry_of run) front) (drop (length (said (carry_of run) front)) out)
+    ∙ ap (said (carry_of run)) all
+    ∙ ap (λ (x : Run). said (carry_of x) (closing x.len)) is
+    ∙ ap (λ (d : Carry). said d (closing (length c.begun))) (carried c)
