@@ -1,10 +1,16 @@
 // A program's streams: reads and writes of which none loses a byte in silence. A call that a signal interrupts is made again. What
-// fails is said on standard error, behind words of the program's, and answered; only an output that nobody reads any more ends a
-// program without a word, as it ends any filter. Which bytes the system moves, and which error it names, no promise can say.
+// fails is said to a writer, as standard error is one, behind words of the program's, and answered; only an output that nobody reads
+// any more ends a program without a word, as it ends any filter. Of a stream of the system's no promise can say which bytes move and
+// which error comes; of one that tells its bytes the promises say which.
 #![tactic(auto)]
 
-ghost use Rattle.std.specs.Prelude.{◌≤◌};
-ghost use Rattle.io.specs.Counts.{IsPrefixLen};
+ghost use Rattle.std.specs.Prelude.{◌≡◌, ◌≤◌, ◌<◌, ℕ, length, take, true, false, IfOk, OnErr};
+ghost use Rattle.std.specs.Io.KnownBytes.{Appends, Consumes, Keeps, IsAtEnd};
+ghost use Rattle.streams.specs.Counts.{IsPrefixLen};
+
+use std::alloc::{AllocError, Global};
+use std::io;
+use std::io::{Error, ErrorKind, Read, Write};
 
 // What a read came to: so many bytes at the start of the buffer. If there are none, the input ended, unless the read failed.
 #[derive(Clone, Copy)]
@@ -14,25 +20,40 @@ pub struct Got {
 }
 
 // Reads some bytes, or says behind `what` why it can't.
-pub fn read(fd: i32, buf: &mut [u8], what: &[u8]) -> Got
-    ensures { IsPrefixLen result.bytes buf.new }
+pub fn read<R: Read, E: Write>(
+    from: &mut R,
+    buf: &mut [u8],
+    what: &[u8],
+    said: &mut E,
+    alloc: Global,
+) -> Got
+    ensures bound { IsPrefixLen result.bytes buf.new }
+    ensures taken { Consumes (R.remaining from.old) (R.remaining from.new) (take result.bytes buf.new) }
+    ensures ended { result.failed ≡ false → result.bytes ≡ 0 → 0 < length buf.old → IsAtEnd (R.remaining from.new) }
+    ensures silent { result.failed ≡ false → Keeps (E.contents said.old) (E.contents said.new) }
 {
     // A proved loop has to end, and nothing says that signals do.
-    let mut turns = u64::MAX;
-    while turns > 0 {
-        let got = libc::read(fd, buf);
-        if got >= 0 {
-            return Got {
-                bytes: io::count(got, buf),
-                failed: false,
-            };
+    for _ in 0..u64::MAX {
+        let got = from.read(buf);
+        match got {
+            Ok(n) => {
+                return Got {
+                    bytes: n,
+                    failed: false,
+                };
+            }
+            Err(e) => {
+                if e.kind() != ErrorKind::Interrupted {
+                    fail(&e, what, said, alloc);
+                    return Got {
+                        bytes: 0,
+                        failed: true,
+                    };
+                }
+            }
         }
-        if os::errno() != libc::EINTR {
-            break;
-        }
-        turns -= 1;
     }
-    os::fail(what);
+    fail(&Error::from(ErrorKind::Interrupted), what, said, alloc);
     Got {
         bytes: 0,
         failed: true,
@@ -40,46 +61,93 @@ pub fn read(fd: i32, buf: &mut [u8], what: &[u8]) -> Got
 }
 
 // Writes all of `bytes` and answers true; or says behind `what` why no more of them are taken, and answers false.
-pub fn write(fd: i32, bytes: &[u8], what: &[u8]) -> bool {
+pub fn write<W: Write, E: Write>(
+    to: &mut W,
+    bytes: &[u8],
+    what: &[u8],
+    said: &mut E,
+    alloc: Global,
+) -> bool
+    ensures all { result ≡ true → Appends (W.contents to.old) (W.contents to.new) bytes.now }
+    ensures front { (n : ℕ) × (n ≤ length bytes.now) × Appends (W.contents to.old) (W.contents to.new) (take n bytes.now) }
+    ensures silent { result ≡ true → Keeps (E.contents said.old) (E.contents said.new) }
+{
     let mut from = 0;
-    let mut turns = u64::MAX;
-    while turns > 0 {
+    for _ in 0..u64::MAX {
         if from >= bytes.len() {
             return true;
         }
-        let answer = libc::write(fd, &bytes[from..]);
-        let took = io::count(answer, &bytes[from..]);
+        let answer = to.write(&bytes[from..]);
+        let took = taken(answer);
         if took == 0 {
-            if !again(answer, what) {
+            if !again(answer, what, said, alloc) {
                 return false;
             }
         }
         from += took;
-        turns -= 1;
     }
-    os::fail(what);
+    fail(&Error::from(ErrorKind::Interrupted), what, said, alloc);
     false
+}
+
+// How many bytes a write took.
+fn taken(answer: io::Result<usize>) -> usize
+    ensures ok { IfOk answer (λ n. result ≡ n) }
+    ensures err { OnErr answer (result ≡ 0) }
+{
+    match answer {
+        Ok(n) => n,
+        Err(_) => 0,
+    }
 }
 
 // Whether a write that took nothing, and answered so, is made again. If not, it is said why, but of an output that nobody reads any
 // more.
-fn again(answer: isize, what: &[u8]) -> bool {
-    if answer >= 0 {
-        stuck(what);
-        return false;
+fn again<E: Write>(answer: io::Result<usize>, what: &[u8], said: &mut E, alloc: Global) -> bool
+    ensures { result ≡ true → Keeps (E.contents said.old) (E.contents said.new) }
+{
+    match answer {
+        Ok(_) => {
+            let _ = stuck(what, said);
+            false
+        }
+        Err(e) => match e.kind() {
+            ErrorKind::Interrupted => true,
+            ErrorKind::BrokenPipe => false,
+            _ => {
+                fail(&e, what, said, alloc);
+                false
+            }
+        },
     }
-    let error = os::errno();
-    if error == libc::EINTR {
-        return true;
-    }
-    if error != libc::EPIPE {
-        os::fail(what);
-    }
-    false
 }
 
 // Of a call that takes nothing and doesn't fail no error is named.
-fn stuck(what: &[u8]) {
-    io::write_all(libc::STDERR_FILENO, what);
-    io::write_all(libc::STDERR_FILENO, b": nothing is taken\n");
+fn stuck<E: Write>(what: &[u8], said: &mut E) -> io::Result<()> {
+    said.write_all(what)?;
+    said.write_all(b": nothing is taken\n")
+}
+
+// What fails, in the program's words and then the system's. What can't be said is left unsaid.
+fn fail<E: Write>(e: &Error, what: &[u8], said: &mut E, alloc: Global) {
+    let _ = tell(e, what, said, alloc);
+}
+
+fn tell<E: Write>(e: &Error, what: &[u8], said: &mut E, alloc: Global) -> io::Result<()> {
+    said.write_all(what)?;
+    said.write_all(b": ")?;
+    match words(e, alloc) {
+        Ok(text) => said.write_all(text.as_bytes())?,
+        Err(_) => write!(said, "{e}")?,
+    }
+    said.write_all(b"\n")
+}
+
+// The system's words for an error, without its number, which stands behind them.
+fn words(e: &Error, alloc: Global) -> Result<String, AllocError> {
+    let mut text = format!(in alloc; "{e}")?;
+    if let Some(end) = text.find(" (os error ") {
+        text.truncate(end);
+    }
+    Ok(text)
 }

@@ -1,4 +1,5 @@
 // A cell: what one event makes of one state.
+use crate::ink::Ink;
 use crate::{frames, ink, words};
 use open_frame::OpenFrame;
 use xl_numbers::states;
@@ -12,25 +13,25 @@ pub(crate) fn state(phase: Phase, memory: Memory) -> State {
     }
 }
 
-fn print_aip(a: Seen) {
+fn print_aip(to: &mut Ink, a: Seen) {
     let n = states::aip_number(a);
     if n == 0 {
-        ink::sign(b'-');
+        ink::sign(to, b'-');
         return;
     }
-    ink::number(n - 1);
+    ink::number(to, n - 1);
 }
 
-pub(crate) fn print_memory(m: Memory) {
+pub(crate) fn print_memory(to: &mut Ink, m: Memory) {
     let held = m.held;
     let heard = m.heard;
     let aip = m.aip;
-    ink::sign(frames::held_sign(held));
-    ink::sign(frames::held_sign(heard));
-    print_aip(aip);
-    ink::flag(m.broke);
-    ink::flag(m.close);
-    ink::flag(m.blocked);
+    ink::sign(to, frames::held_sign(held));
+    ink::sign(to, frames::held_sign(heard));
+    print_aip(to, aip);
+    ink::flag(to, m.broke);
+    ink::flag(to, m.close);
+    ink::flag(to, m.blocked);
 }
 
 fn refusal_number(a: Answer) -> u8 {
@@ -67,48 +68,48 @@ fn is_still(s: State, t: State, a: Actions) -> bool {
     (state_number(s) == state_number(t)) & words::is_none(first)
 }
 
-fn print_change(t: State, a: Actions) {
+fn print_change(to: &mut Ink, t: State, a: Actions) {
     let memory = t.memory;
     let phase = t.phase;
-    ink::number(states::phase_number(phase));
-    ink::sign(b'/');
-    print_memory(memory);
-    ink::sign(b'/');
-    words::print_actions(a);
+    ink::number(to, states::phase_number(phase));
+    ink::sign(to, b'/');
+    print_memory(to, memory);
+    ink::sign(to, b'/');
+    words::print_actions(to, a);
 }
 
 // What a step from s that was not refused leaves and does.
-fn print_taken(s: State, t: State, a: Actions) {
+fn print_taken(to: &mut Ink, s: State, t: State, a: Actions) {
     if t.count != s.count {
-        ink::sign(b'+');
+        ink::sign(to, b'+');
     }
     if is_still(s, t, a) {
         if t.count == s.count {
-            ink::sign(b'=');
+            ink::sign(to, b'=');
         }
         return;
     }
-    print_change(t, a);
+    print_change(to, t, a);
 }
 
 // The cell of a step that was taken in s, behind a tab.
-fn print_cell(s: State, r: Stepped) {
+fn print_cell(to: &mut Ink, s: State, r: Stepped) {
     let answer = r.answer;
     let refusal = refusal_number(answer);
-    ink::sign(b'\t');
+    ink::sign(to, b'\t');
     if refusal != 0 {
-        ink::number(refusal);
+        ink::number(to, refusal);
         return;
     }
     let state = r.state;
     let actions = r.actions;
-    print_taken(s, state, actions);
+    print_taken(to, s, state, actions);
 }
 
-pub(crate) fn print_step(s: State, e: Event, f: OpenFrame) {
-    print_cell(s, xl::step(s, e, f));
+pub(crate) fn print_step(to: &mut Ink, s: State, e: Event, f: OpenFrame) {
+    print_cell(to, s, xl::step(s, e, f));
 }
 
-pub(crate) fn print_received(s: State, bytes: &[u8]) {
-    print_cell(s, xl::receive(s, bytes));
+pub(crate) fn print_received(to: &mut Ink, s: State, bytes: &[u8]) {
+    print_cell(to, s, xl::receive(s, bytes));
 }

@@ -1,4 +1,5 @@
 // The count of unexpected events, and where it stops.
+use crate::ink::Ink;
 use crate::{frames, ink};
 use xl_parts::{Event, Primitive, State};
 
@@ -14,17 +15,17 @@ fn count_after(s: State, e: Event) -> u32 {
 }
 
 // CLOSE is unexpected in XL0.
-fn print_count(count: u32) {
+fn print_count(to: &mut Ink, count: u32) {
     let after = count_after(counting(count), Event::Line(Primitive::Close));
-    ink::text(b"count\t");
-    ink::count(count);
-    ink::sign(b'\t');
-    ink::count(after);
-    ink::sign(b'\n');
+    ink::text(to, b"count\t");
+    ink::count(to, count);
+    ink::sign(to, b'\t');
+    ink::count(to, after);
+    ink::sign(to, b'\n');
 }
 
-pub(crate) fn print_counts() {
-    print_count(0);
-    print_count(0xffff_fffe);
-    print_count(0xffff_ffff);
+pub(crate) fn print_counts(to: &mut Ink) {
+    print_count(to, 0);
+    print_count(to, 0xffff_fffe);
+    print_count(to, 0xffff_ffff);
 }

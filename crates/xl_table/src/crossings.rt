@@ -1,4 +1,5 @@
 // OPENs that cross the frame transmitted: in XL6, and remembered in XL5.
+use crate::ink::Ink;
 use crate::{cells, frames, ink};
 use open_frame::OpenFrame;
 use xl_numbers::states;
@@ -52,46 +53,46 @@ fn crossed(heard: Held, aip: Seen) -> Memory {
 }
 
 // OPEN in XL6.
-fn print_opened(c: Crossing) {
+fn print_opened(to: &mut Ink, c: Crossing) {
     let aip = c.aip;
     let s = cells::state(Phase::Xl6, crossed(Held::Nothing, aip));
-    cells::print_step(s, Event::Line(Primitive::Open), frame_of(2, c));
+    cells::print_step(to, s, Event::Line(Primitive::Open), frame_of(2, c));
 }
 
 // The same OPEN remembered in XL5 and taken at Sent.
-fn print_sent(c: Crossing) {
+fn print_sent(to: &mut Ink, c: Crossing) {
     let aip = c.aip;
     let s = cells::state(Phase::Xl5, crossed(Held::Frame(frame_of(3, c)), aip));
-    cells::print_step(s, Event::Own(Notice::Sent), frames::received());
+    cells::print_step(to, s, Event::Own(Notice::Sent), frames::received());
 }
 
-fn print_crossing(c: Crossing) {
+fn print_crossing(to: &mut Ink, c: Crossing) {
     let aip = c.aip;
-    ink::text(b"crossing\t");
-    ink::number(c.n);
-    ink::sign(b'\t');
-    ink::number(c.back);
-    ink::sign(b'\t');
-    ink::number(c.rate);
-    ink::sign(b'\t');
-    ink::number(states::aip_number(aip));
-    print_opened(c);
-    print_sent(c);
-    ink::sign(b'\n');
+    ink::text(to, b"crossing\t");
+    ink::number(to, c.n);
+    ink::sign(to, b'\t');
+    ink::number(to, c.back);
+    ink::sign(to, b'\t');
+    ink::number(to, c.rate);
+    ink::sign(to, b'\t');
+    ink::number(to, states::aip_number(aip));
+    print_opened(to, c);
+    print_sent(to, c);
+    ink::sign(to, b'\n');
 }
 
-fn print_aips(n: u8, back: u8, rate: u8) {
+fn print_aips(to: &mut Ink, n: u8, back: u8, rate: u8) {
     for i in 0..5 {
         let read = states::aip_of(i);
         match read {
-            AipRead::Named(aip) => print_crossing(Crossing { n, back, rate, aip }),
+            AipRead::Named(aip) => print_crossing(to, Crossing { n, back, rate, aip }),
             AipRead::Unnamed => {}
         }
     }
 }
 
-pub(crate) fn print_crossings() {
+pub(crate) fn print_crossings(to: &mut Ink) {
     for i in 0..30 {
-        print_aips(i / 6, i / 3 % 2, 8 + i % 3);
+        print_aips(to, i / 6, i / 3 % 2, 8 + i % 3);
     }
 }

@@ -16,9 +16,12 @@ mod refused;
 mod table;
 mod words;
 
-fn main() {
-    table::print_states();
-    crossings::print_crossings();
-    refused::print_refusals();
-    counts::print_counts();
+use crate::ink::Ink;
+
+fn main(rt: HostRuntime) {
+    let mut to = Ink::new(rt.stdout(), rt.stderr(), rt.alloc());
+    table::print_states(&mut to);
+    crossings::print_crossings(&mut to);
+    refused::print_refusals(&mut to);
+    counts::print_counts(&mut to);
 }

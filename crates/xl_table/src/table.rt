@@ -1,4 +1,5 @@
 // A line for each state and each memory: the link status, and a cell for each event.
+use crate::ink::Ink;
 use crate::{cells, frames, ink};
 use xl_numbers::codes::{Code, EventRead};
 use xl_numbers::states::{AipRead, PhaseRead};
@@ -6,18 +7,18 @@ use xl_numbers::{codes, states};
 use xl_parts::{LinkStatus, Memory, Phase, Seen, State};
 
 // The cell of an event, if the code names one.
-fn print_coded(s: State, kind: u8, detail: u8) {
+fn print_coded(to: &mut Ink, s: State, kind: u8, detail: u8) {
     let read = codes::event_of(Code { kind, detail });
     match read {
-        EventRead::Named(e) => cells::print_step(s, e, frames::received()),
+        EventRead::Named(e) => cells::print_step(to, s, e, frames::received()),
         EventRead::Unnamed => {}
     }
 }
 
 // The cells of a kind's events; no kind has more than eight details.
-fn print_kind(s: State, kind: u8) {
+fn print_kind(to: &mut Ink, s: State, kind: u8) {
     for detail in 0..8 {
-        print_coded(s, kind, detail);
+        print_coded(to, s, kind, detail);
     }
 }
 
@@ -30,19 +31,19 @@ fn is_late(kind: u8) -> bool {
 }
 
 // A number that is no event's kind has no cell.
-fn print_early(s: State) {
+fn print_early(to: &mut Ink, s: State) {
     for kind in 0..64 {
         if !is_late(kind) {
-            print_kind(s, kind);
+            print_kind(to, s, kind);
         }
     }
 }
 
-fn print_late(s: State) {
-    print_kind(s, 6);
-    print_kind(s, 18);
-    print_kind(s, 51);
-    print_kind(s, 63);
+fn print_late(to: &mut Ink, s: State) {
+    print_kind(to, s, 6);
+    print_kind(to, s, 18);
+    print_kind(to, s, 51);
+    print_kind(to, s, 63);
 }
 
 fn status_sign(a: LinkStatus) -> u8 {
@@ -55,16 +56,16 @@ fn status_sign(a: LinkStatus) -> u8 {
     }
 }
 
-fn print_line(phase: Phase, m: Memory) {
+fn print_line(to: &mut Ink, phase: Phase, m: Memory) {
     let s = cells::state(phase, m);
-    ink::number(states::phase_number(phase));
-    ink::sign(b'\t');
-    cells::print_memory(m);
-    ink::sign(b'\t');
-    ink::sign(status_sign(xl::status(s)));
-    print_early(s);
-    print_late(s);
-    ink::sign(b'\n');
+    ink::number(to, states::phase_number(phase));
+    ink::sign(to, b'\t');
+    cells::print_memory(to, m);
+    ink::sign(to, b'\t');
+    ink::sign(to, status_sign(xl::status(s)));
+    print_early(to, s);
+    print_late(to, s);
+    ink::sign(to, b'\n');
 }
 
 // The memory with a number below 32: whether a frame is held, whether an OPEN is remembered, and three flags.
@@ -81,28 +82,28 @@ fn memory(n: u8, aip: Seen) -> Memory {
     }
 }
 
-fn print_memories(phase: Phase, aip: Seen) {
+fn print_memories(to: &mut Ink, phase: Phase, aip: Seen) {
     for n in 0..32 {
-        print_line(phase, memory(n, aip));
+        print_line(to, phase, memory(n, aip));
     }
 }
 
 // The lines of a state, by the latest AIP.
-fn print_aips(phase: Phase) {
+fn print_aips(to: &mut Ink, phase: Phase) {
     for n in 0..5 {
         let read = states::aip_of(n);
         match read {
-            AipRead::Named(aip) => print_memories(phase, aip),
+            AipRead::Named(aip) => print_memories(to, phase, aip),
             AipRead::Unnamed => {}
         }
     }
 }
 
-pub(crate) fn print_states() {
+pub(crate) fn print_states(to: &mut Ink) {
     for n in 0..11 {
         let read = states::phase_of(n);
         match read {
-            PhaseRead::Named(phase) => print_aips(phase),
+            PhaseRead::Named(phase) => print_aips(to, phase),
             PhaseRead::Unnamed => {}
         }
     }
