@@ -47,6 +47,7 @@ fn left_step(r: Request, i: usize, d: Done) -> Request
 }
 
 // The first record that a call may change.
+#[tactic(auto, unfolding(crate::specs::Walk::walk_from))]
 fn walk_from(d: Done) -> usize
     ensures { result ≡ walk_from d }
 {
@@ -58,6 +59,7 @@ fn walk_from(d: Done) -> usize
 }
 
 // The place behind the last record that a call may change.
+#[tactic(auto, unfolding(crate::specs::Walk::walk_to))]
 fn walk_to(d: Done) -> usize
     ensures { result ≡ walk_to d }
 {

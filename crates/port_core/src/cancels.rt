@@ -47,6 +47,7 @@ fn stopped(p: Port, r: Request, s: u8, now: u64) -> Done
     answers::stored(q, answer, entry, loss)
 }
 
+#[tactic(auto, unfolding(port_rows::specs::Calls::cancelled))]
 fn cancelled(p: Port, r: Request, s: u8, now: u64) -> Done
     ensures { result ≡ calls.cancelled p r s now }
 {

@@ -92,6 +92,7 @@ fn closing(p: Port, r: Request, b: Pick, now: u64) -> Done
     answers::stored(q, answer, entry, loss)
 }
 
+#[tactic(auto, unfolding(port_rows::specs::Calls::chosen))]
 fn chosen(p: Port, r: Request, b: Pick, now: u64) -> Done
     ensures { result ≡ calls.chosen p r b now }
 {
@@ -108,6 +109,7 @@ fn chosen(p: Port, r: Request, b: Pick, now: u64) -> Done
     answers::unnamed(q, Word::Nothing, false)
 }
 
+#[tactic(auto, unfolding(port_rows::specs::Calls::choose_core))]
 pub fn choose_core(p: Port, r: Request, kept: bool, b: Pick, now: u64) -> Done
     ensures { result ≡ choose_core p r kept b now }
 {

@@ -49,6 +49,7 @@ fn connected(p: Port, f: Phy, r: Request, x: Confirmed) -> Done
     answers::stored(q, answer, entry, loss)
 }
 
+#[tactic(auto, unfolding(port_rows::specs::Calls::opened_core))]
 pub fn opened_core(p: Port, r: Request, kept: bool, x: Confirmed) -> Done
     ensures { result ≡ opened_core p r kept x }
 {

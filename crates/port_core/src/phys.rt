@@ -26,6 +26,7 @@ fn framed(p: Port, f: Phy, r: Request, x: Report) -> Done
     answers::ended(q, answer)
 }
 
+#[tactic(auto, unfolding(port_rows::specs::Calls::frame_status_core))]
 pub fn frame_status_core(p: Port, r: Request, kept: bool, x: Report) -> Done
     ensures { result ≡ frame_status_core p r kept x }
 {
@@ -63,6 +64,7 @@ fn is_joined(f: Phy) -> bool
         | ((f.stage == phy_stage::CLOSING) | (f.stage == phy_stage::CLOSING_SENDING))
 }
 
+#[tactic(auto, unfolding(port_rows::specs::Calls::closed_core))]
 pub fn closed_core(p: Port, r: Request, kept: bool, x: Confirmed) -> Done
     ensures { result ≡ closed_core p r kept x }
 {
@@ -72,6 +74,7 @@ pub fn closed_core(p: Port, r: Request, kept: bool, x: Confirmed) -> Done
     answers::given(c, p, d)
 }
 
+#[tactic(auto, unfolding(port_rows::specs::Calls::enable_core))]
 pub fn enable_core(p: Port, r: Request, kept: bool, x: Confirmed) -> Done
     ensures { result ≡ enable_core p r kept x }
 {
@@ -105,6 +108,7 @@ fn disabled_done(p: Port, f: Phy, r: Request, x: Confirmed) -> Done
     answers::stored(q, answer, entry, loss)
 }
 
+#[tactic(auto, unfolding(port_rows::specs::Calls::disable_core))]
 pub fn disable_core(p: Port, r: Request, kept: bool, x: Confirmed) -> Done
     ensures { result ≡ disable_core p r kept x }
 {

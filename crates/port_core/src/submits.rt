@@ -11,6 +11,7 @@ use port_rows::{Done, Room, Submission, Word};
 use refusals::{Checked, Refusal};
 
 // Every record of the list is set free with it.
+#[tactic(auto, unfolding(port_rows::specs::Calls::setup_core))]
 pub fn setup_core(count: u8, loss: u16) -> Done
     ensures { result ≡ setup_core count loss }
 {

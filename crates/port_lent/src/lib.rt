@@ -67,6 +67,7 @@ fn phy_formed(f: Phy) -> bool
     (f.zero4 == 0) & (f.zero1 == 0)
 }
 
+#[tactic(auto, unfolding(crate::specs::Lent::phys_formed, laws::specs::Folds::all_below))]
 fn phys_formed(phys: [Phy; 8]) -> bool
     ensures { result ≡ lent.phys_formed phys }
 {

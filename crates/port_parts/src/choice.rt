@@ -103,6 +103,7 @@ pub fn no_pick() -> Pick
 }
 
 // What can be done for the request at place i.
+#[tactic(auto, unfolding(crate::specs::Choice::picked))]
 fn picked(x: Asked, r: Request, i: usize) -> Pick
     ensures { result ≡ picked x r i }
 {

@@ -87,6 +87,7 @@ fn flags_rule(r: Request) -> bool
                 & ((r.retry.set <= SET) & ((r.first.set <= SET) & (r.loss.set <= SET)))))
 }
 
+#[tactic(auto, unfolding(crate::specs::Rules::present_rule))]
 fn present_rule(r: Request, last: u64) -> bool
     ensures { result ≡ present_rule r last }
 {
@@ -99,6 +100,7 @@ fn present_rule(r: Request, last: u64) -> bool
 }
 
 // The rules that speak of one record.
+#[tactic(auto, unfolding(crate::specs::Rules::request_rule))]
 pub fn request_rule(p: Port, r: Request, i: usize) -> bool
     ensures { result ≡ request_rule p r i }
 {
