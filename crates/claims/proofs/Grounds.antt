@@ -9,7 +9,7 @@ use lib.Dec.{eqb, leb}
 use lib.ListN.{length, get_or}
 use borrow.Author.Tests.{eqb-true, eq-eqb, leb-true, le-leb}
 use Rattle.laws.proofs.Bools.{and_left, and_right, and_true}
-use Rattle.laws.proofs.Tests.{equal, most, both, means}
+use Rattle.laws.proofs.Tests.{equal, both, means}
 use Rattle.wire.specs.Be.{be_at}
 use Rattle.wire.proofs.Laws.{zero_bytes, bytes_zero}
 use Rattle.open_frame.specs.Open.{head_of, head_listed, typed}

@@ -1,9 +1,9 @@
 -- What C sees of each call of a link is the machine's own step on the state that the numbers say; whatever is refused comes back as it was
 -- lent; and over any calls from all zeros C sees the machine's run from XL0. Assumes nothing.
 use Prim.Native.Nat.{ℕ, min}
-use mathlib.Core.Bool.{Bool, true, false, not, ◌&&◌}
-use mathlib.Core.List.{List, [], ◌∷◌, ◌++◌, map}
-use mathlib.Core.Logic.{◌⊎◌, ◌↔◌, inl, inr}
+use mathlib.Core.Bool.{true, false, not}
+use mathlib.Core.List.{List, [], ◌∷◌, map}
+use mathlib.Core.Logic.{◌↔◌, inl, inr}
 use mathlib.Core.Path.{◌≡◌, refl, sym, ap, subst⁻¹, ◌∙◌}
 use native.Mathlib.Omega.{arith}
 use Rattle.laws.specs.Tests.{Says}
@@ -32,13 +32,12 @@ use Rattle.xl_numbers.specs.States.{status_number}
 use Rattle.xl_numbers.proofs.CodeTrips.{event_named}
 use Rattle.xl_numbers.proofs.StateTrips.{one_status}
 use Rattle.xl_rows.specs.Table.{takes}
-use Rattle.xl.specs.Rules.{keeps_rules}
 use Rattle.xl.specs.Steps.{has_frame, step_of, receive_of}
 use Rattle.xl.specs.Status.{in_phase, status_of}
 use Rattle.xl_lent.specs.declared.Link.{Link}
 use Rattle.xl_lent.specs.declared.Codes.{Codes}
 use Rattle.xl_lent.specs.declared.Step.{Step}
-use Rattle.xl_lent.specs.Lent.{state_of, shown, formed, zeros}
+use Rattle.xl_lent.specs.Lent.{state_of, shown, zeros}
 use Rattle.xl_lent.specs.Formed.{Formed}
 use Rattle.xl_lent.specs.Face.{refused, told, heard, link_event, link_receive, link_status, keeps_lent, Sees, codes_of}
 use Rattle.xl_lent.specs.Typed.{typed_link, typed_state, blocked_link, blocked_state, closed_link, closed_state}
@@ -201,6 +200,7 @@ status_three l ok e = by ((status_refuses l Refusal.Rules).0 e)
   where
     by : First (lent_grounds l) Refusal.Rules → ⊥
     by (here off) = off ((keeps_says l).0 ok)
+    by (later _ f) = elim f [ ]
 
 -- 01 XL.1 01 XL.4 01 XL.6 01 XL.39 01 REFUSAL.2 01 REFUSAL.3 01 REFUSAL.12 01 PROMISE.3
 pub record LinkFace : Type 1 where

@@ -86,12 +86,17 @@ working p = (there p, back p)
     there Phase.Xl10 e = impossible e
 
     back : (p : Phase) → Working p → works p ≡ true
+    back Phase.Xl0 h = elim h [ ]
     back Phase.Xl1 in1 = refl
     back Phase.Xl2 in2 = refl
     back Phase.Xl3 in3 = refl
     back Phase.Xl4 in4 = refl
     back Phase.Xl5 in5 = refl
     back Phase.Xl6 in6 = refl
+    back Phase.Xl7 h = elim h [ ]
+    back Phase.Xl8 h = elim h [ ]
+    back Phase.Xl9 h = elim h [ ]
+    back Phase.Xl10 h = elim h [ ]
 
 fields : (h : Held) → (fielded h ≡ true) ↔ Fields h
 fields Held.Nothing = (λ e. tt, λ h. refl)

@@ -85,16 +85,16 @@ module _ (count loss : ℕ) (s : Lent) (n : (face_of (setup count loss) s).answe
 pub record PortFace : Type 2 where
   -- what each of the ten functions promises, as the checker makes it of its source, is what C is said to see of its call, and the list behind it; a
   -- holds the list, the port and the numbers that the call is given, e the list at the end, and a setup is lent no port
-  pub face_setup : (p : LentPort) → Means face_setup.ended (λ M. face_setup.spec) (λ κs a r e. Sees (setup a.1.0 a.1.1.0) (lent p a.0.now) r e.0.now)
-  pub face_submit : Means face_submit.ended (λ M. face_submit.spec) (λ κs a r e. Sees (submit (submission_of a.1.1.0 a.1.1.1.0)) (lent a.1.0 a.0.now) r e.0.now)
-  pub face_cancel : Means face_cancel.ended (λ M. face_cancel.spec) (λ κs a r e. Sees (cancel (withdrawn_of a.1.1.0 a.1.1.1.0 a.1.1.1.1.0 a.1.1.1.1.1.0)) (lent a.1.0 a.0.now) r e.0.now)
-  pub face_choose : Means face_choose.ended (λ M. face_choose.spec) (λ κs a r e. Sees (choose (time_of a.1.1.0)) (lent a.1.0 a.0.now) r e.0.now)
-  pub face_opened : Means face_opened.ended (λ M. face_opened.spec) (λ κs a r e. Sees (opened (confirmed_of a.1.1.0 a.1.1.1.0)) (lent a.1.0 a.0.now) r e.0.now)
-  pub face_open_failed : Means face_open_failed.ended (λ M. face_open_failed.spec) (λ κs a r e. Sees (open_failed (failure_of a.1.1.0 a.1.1.1.0 a.1.1.1.1.0)) (lent a.1.0 a.0.now) r e.0.now)
-  pub face_frame_status : Means face_frame_status.ended (λ M. face_frame_status.spec) (λ κs a r e. Sees (frame_status (report_of a.1.1.0 a.1.1.1.0 a.1.1.1.1.0)) (lent a.1.0 a.0.now) r e.0.now)
-  pub face_closed : Means face_closed.ended (λ M. face_closed.spec) (λ κs a r e. Sees (closed (confirmed_of a.1.1.0 a.1.1.1.0)) (lent a.1.0 a.0.now) r e.0.now)
-  pub face_enable : Means face_enable.ended (λ M. face_enable.spec) (λ κs a r e. Sees (enable (confirmed_of a.1.1.0 a.1.1.1.0)) (lent a.1.0 a.0.now) r e.0.now)
-  pub face_disable : Means face_disable.ended (λ M. face_disable.spec) (λ κs a r e. Sees (disable (confirmed_of a.1.1.0 a.1.1.1.0)) (lent a.1.0 a.0.now) r e.0.now)
+  pub face_setup : (p : LentPort) → Means face_setup.ended (λ M 𝓤. face_setup.spec) (λ κs a r e. Sees (setup a.1.0 a.1.1.0) (lent p a.0.now) r e.0.now)
+  pub face_submit : Means face_submit.ended (λ M 𝓤. face_submit.spec) (λ κs a r e. Sees (submit (submission_of a.1.1.0 a.1.1.1.0)) (lent a.1.0 a.0.now) r e.0.now)
+  pub face_cancel : Means face_cancel.ended (λ M 𝓤. face_cancel.spec) (λ κs a r e. Sees (cancel (withdrawn_of a.1.1.0 a.1.1.1.0 a.1.1.1.1.0 a.1.1.1.1.1.0)) (lent a.1.0 a.0.now) r e.0.now)
+  pub face_choose : Means face_choose.ended (λ M 𝓤. face_choose.spec) (λ κs a r e. Sees (choose (time_of a.1.1.0)) (lent a.1.0 a.0.now) r e.0.now)
+  pub face_opened : Means face_opened.ended (λ M 𝓤. face_opened.spec) (λ κs a r e. Sees (opened (confirmed_of a.1.1.0 a.1.1.1.0)) (lent a.1.0 a.0.now) r e.0.now)
+  pub face_open_failed : Means face_open_failed.ended (λ M 𝓤. face_open_failed.spec) (λ κs a r e. Sees (open_failed (failure_of a.1.1.0 a.1.1.1.0 a.1.1.1.1.0)) (lent a.1.0 a.0.now) r e.0.now)
+  pub face_frame_status : Means face_frame_status.ended (λ M 𝓤. face_frame_status.spec) (λ κs a r e. Sees (frame_status (report_of a.1.1.0 a.1.1.1.0 a.1.1.1.1.0)) (lent a.1.0 a.0.now) r e.0.now)
+  pub face_closed : Means face_closed.ended (λ M 𝓤. face_closed.spec) (λ κs a r e. Sees (closed (confirmed_of a.1.1.0 a.1.1.1.0)) (lent a.1.0 a.0.now) r e.0.now)
+  pub face_enable : Means face_enable.ended (λ M 𝓤. face_enable.spec) (λ κs a r e. Sees (enable (confirmed_of a.1.1.0 a.1.1.1.0)) (lent a.1.0 a.0.now) r e.0.now)
+  pub face_disable : Means face_disable.ended (λ M 𝓤. face_disable.spec) (λ κs a r e. Sees (disable (confirmed_of a.1.1.0 a.1.1.1.0)) (lent a.1.0 a.0.now) r e.0.now)
   -- which is the machine's own call on the port that the numbers say: its answer and its port in numbers, and every record
   pub sees : (c : Call) (s : Lent) (r : PortStep) (after : List Request) → Sees c s r after → (r ≡ face_of c s) × (after ≡ list_of c s)
   -- well formed numbers say the port as they stand

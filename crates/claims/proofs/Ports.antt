@@ -62,16 +62,16 @@ lent p l = record { port = p; list = l }
 pub record Ports : Type 2 where
   -- what each of the ten functions promises, as the checker makes it of its source, is what its own call does; a holds the list, the port and
   -- what the call is given, e the list at the end, and a setup is lent no port
-  pub call_setup : (p : Port) → Means call_setup.ended (λ M. call_setup.spec) (λ κs a r e. Does (setup a.1.0 a.1.1.0) (lent p (now a.0)) r (now e.0))
-  pub call_submit : Means call_submit.ended (λ M. call_submit.spec) (λ κs a r e. Does (submit a.1.1.0) (lent a.1.0 (now a.0)) r (now e.0))
-  pub call_cancel : Means call_cancel.ended (λ M. call_cancel.spec) (λ κs a r e. Does (cancel a.1.1.0) (lent a.1.0 (now a.0)) r (now e.0))
-  pub call_choose : Means call_choose.ended (λ M. call_choose.spec) (λ κs a r e. Does (choose a.1.1.0) (lent a.1.0 (now a.0)) r (now e.0))
-  pub call_opened : Means call_opened.ended (λ M. call_opened.spec) (λ κs a r e. Does (opened a.1.1.0) (lent a.1.0 (now a.0)) r (now e.0))
-  pub call_open_failed : Means call_open_failed.ended (λ M. call_open_failed.spec) (λ κs a r e. Does (open_failed a.1.1.0) (lent a.1.0 (now a.0)) r (now e.0))
-  pub call_frame_status : Means call_frame_status.ended (λ M. call_frame_status.spec) (λ κs a r e. Does (frame_status a.1.1.0) (lent a.1.0 (now a.0)) r (now e.0))
-  pub call_closed : Means call_closed.ended (λ M. call_closed.spec) (λ κs a r e. Does (closed a.1.1.0) (lent a.1.0 (now a.0)) r (now e.0))
-  pub call_enable : Means call_enable.ended (λ M. call_enable.spec) (λ κs a r e. Does (enable a.1.1.0) (lent a.1.0 (now a.0)) r (now e.0))
-  pub call_disable : Means call_disable.ended (λ M. call_disable.spec) (λ κs a r e. Does (disable a.1.1.0) (lent a.1.0 (now a.0)) r (now e.0))
+  pub call_setup : (p : Port) → Means call_setup.ended (λ M 𝓤. call_setup.spec) (λ κs a r e. Does (setup a.1.0 a.1.1.0) (lent p a.0.now) r e.0.now)
+  pub call_submit : Means call_submit.ended (λ M 𝓤. call_submit.spec) (λ κs a r e. Does (submit a.1.1.0) (lent a.1.0 a.0.now) r e.0.now)
+  pub call_cancel : Means call_cancel.ended (λ M 𝓤. call_cancel.spec) (λ κs a r e. Does (cancel a.1.1.0) (lent a.1.0 a.0.now) r e.0.now)
+  pub call_choose : Means call_choose.ended (λ M 𝓤. call_choose.spec) (λ κs a r e. Does (choose a.1.1.0) (lent a.1.0 a.0.now) r e.0.now)
+  pub call_opened : Means call_opened.ended (λ M 𝓤. call_opened.spec) (λ κs a r e. Does (opened a.1.1.0) (lent a.1.0 a.0.now) r e.0.now)
+  pub call_open_failed : Means call_open_failed.ended (λ M 𝓤. call_open_failed.spec) (λ κs a r e. Does (open_failed a.1.1.0) (lent a.1.0 a.0.now) r e.0.now)
+  pub call_frame_status : Means call_frame_status.ended (λ M 𝓤. call_frame_status.spec) (λ κs a r e. Does (frame_status a.1.1.0) (lent a.1.0 a.0.now) r e.0.now)
+  pub call_closed : Means call_closed.ended (λ M 𝓤. call_closed.spec) (λ κs a r e. Does (closed a.1.1.0) (lent a.1.0 a.0.now) r e.0.now)
+  pub call_enable : Means call_enable.ended (λ M 𝓤. call_enable.spec) (λ κs a r e. Does (enable a.1.1.0) (lent a.1.0 a.0.now) r e.0.now)
+  pub call_disable : Means call_disable.ended (λ M 𝓤. call_disable.spec) (λ κs a r e. Does (disable a.1.1.0) (lent a.1.0 a.0.now) r e.0.now)
   -- 01 PORT.12 01 PORT.13 01 PORT.14
   pub chooses : (x : Asked) (l : List Request) → length x.phys ≡ 8 → Right x.phys x.now l (chosen_of x l 32)
   -- and there is one right choice only

@@ -18,12 +18,11 @@ use Rattle.take.specs.Take.{take_store}
 use Rattle.take.specs.Grounds.{ask_grounds, take_grounds}
 use Rattle.take_history.specs.Calls as machine
 use Rattle.take_history.specs.Calls.{Call, plain, ask, take}
-use Rattle.write_lent.specs.Lent.{formed, state_of, shown, told, seen, is_refusal}
+use Rattle.write_lent.specs.Lent.{formed, state_of, seen, is_refusal}
 use Rattle.write_lent.specs.Face.{face_of, bytes_of, store_of}
 use Rattle.write_lent.specs.Grounds.{OutOfRange, InOrder}
 use Rattle.write_lent.specs.History.{Reached}
 use Rattle.write_lent.specs.declared.State.{State}
-use Rattle.write_lent.specs.declared.Step.{Step}
 use Rattle.write_lent.proofs.Bytes.{keeps_bytes, keeps_store}
 use Rattle.write_lent.proofs.Refused.{refused_stays, unformed_three, refused_seen, ask_seen, take_seen, three_exactly, told_apart}
 use Rattle.claims.specs.Causes.{DataLength, OutBytes}

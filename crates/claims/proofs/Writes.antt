@@ -18,7 +18,7 @@ use Rattle.write.specs.declared.Answer.{Answer}
 use Rattle.write.proofs.Sound.{kept}
 use Rattle.write.proofs.Exact.{left_good}
 use Rattle.write.proofs.Stuck.{unstuck}
-use Rattle.write_history.specs.History.{Request, Xfer, Data, Entry, asked, came, View, due, good, failed, view, takes, end_of_data, end_of_xfer, Among}
+use Rattle.write_history.specs.History.{Xfer, Data, Entry, asked, came, View, due, good, failed, view, takes, end_of_data, end_of_xfer, Among}
 use Rattle.write_history.specs.Words.{word_by, underway}
 use Rattle.write_history.specs.Log.{request_of}
 use Rattle.write_history.specs.Demand.{end_of_request, last_end, EndToEnd, Covers, ranges, Answered, WriteDemand}

@@ -156,16 +156,16 @@ pub record Ports : Type 2 where
   pub port_closed_core : Anything 0 port-closed-core-of.ps port_closed_core.Pre
   pub port_enable_core : Anything 0 port-enable-core-of.ps port_enable_core.Pre
   pub port_disable_core : Anything 0 port-disable-core-of.ps port_disable_core.Pre
-  pub call_setup : AsksNothing call_setup.ended (λ M. call_setup.spec)
-  pub call_submit : AsksNothing call_submit.ended (λ M. call_submit.spec)
-  pub call_cancel : AsksNothing call_cancel.ended (λ M. call_cancel.spec)
-  pub call_choose : AsksNothing call_choose.ended (λ M. call_choose.spec)
-  pub call_opened : AsksNothing call_opened.ended (λ M. call_opened.spec)
-  pub call_open_failed : AsksNothing call_open_failed.ended (λ M. call_open_failed.spec)
-  pub call_frame_status : AsksNothing call_frame_status.ended (λ M. call_frame_status.spec)
-  pub call_closed : AsksNothing call_closed.ended (λ M. call_closed.spec)
-  pub call_enable : AsksNothing call_enable.ended (λ M. call_enable.spec)
-  pub call_disable : AsksNothing call_disable.ended (λ M. call_disable.spec)
+  pub call_setup : AsksNothing call_setup.ended (λ M 𝓤. call_setup.spec)
+  pub call_submit : AsksNothing call_submit.ended (λ M 𝓤. call_submit.spec)
+  pub call_cancel : AsksNothing call_cancel.ended (λ M 𝓤. call_cancel.spec)
+  pub call_choose : AsksNothing call_choose.ended (λ M 𝓤. call_choose.spec)
+  pub call_opened : AsksNothing call_opened.ended (λ M 𝓤. call_opened.spec)
+  pub call_open_failed : AsksNothing call_open_failed.ended (λ M 𝓤. call_open_failed.spec)
+  pub call_frame_status : AsksNothing call_frame_status.ended (λ M 𝓤. call_frame_status.spec)
+  pub call_closed : AsksNothing call_closed.ended (λ M 𝓤. call_closed.spec)
+  pub call_enable : AsksNothing call_enable.ended (λ M 𝓤. call_enable.spec)
+  pub call_disable : AsksNothing call_disable.ended (λ M 𝓤. call_disable.spec)
   pub lent_port_of : Anything 0 lent-port-of-of.ps lent_port_of.Pre
   pub lent_shown : Anything 0 lent-shown-of.ps lent_shown.Pre
   pub lent_set_up : Anything 0 lent-set-up-of.ps lent_set_up.Pre
@@ -175,16 +175,16 @@ pub record Ports : Type 2 where
   pub lent_confirmed_of : Anything 0 lent-confirmed-of-of.ps lent_confirmed_of.Pre
   pub lent_failure_of : Anything 0 lent-failure-of-of.ps lent_failure_of.Pre
   pub lent_report_of : Anything 0 lent-report-of-of.ps lent_report_of.Pre
-  pub face_setup : AsksNothing face_setup.ended (λ M. face_setup.spec)
-  pub face_submit : AsksNothing face_submit.ended (λ M. face_submit.spec)
-  pub face_cancel : AsksNothing face_cancel.ended (λ M. face_cancel.spec)
-  pub face_choose : AsksNothing face_choose.ended (λ M. face_choose.spec)
-  pub face_opened : AsksNothing face_opened.ended (λ M. face_opened.spec)
-  pub face_open_failed : AsksNothing face_open_failed.ended (λ M. face_open_failed.spec)
-  pub face_frame_status : AsksNothing face_frame_status.ended (λ M. face_frame_status.spec)
-  pub face_closed : AsksNothing face_closed.ended (λ M. face_closed.spec)
-  pub face_enable : AsksNothing face_enable.ended (λ M. face_enable.spec)
-  pub face_disable : AsksNothing face_disable.ended (λ M. face_disable.spec)
+  pub face_setup : AsksNothing face_setup.ended (λ M 𝓤. face_setup.spec)
+  pub face_submit : AsksNothing face_submit.ended (λ M 𝓤. face_submit.spec)
+  pub face_cancel : AsksNothing face_cancel.ended (λ M 𝓤. face_cancel.spec)
+  pub face_choose : AsksNothing face_choose.ended (λ M 𝓤. face_choose.spec)
+  pub face_opened : AsksNothing face_opened.ended (λ M 𝓤. face_opened.spec)
+  pub face_open_failed : AsksNothing face_open_failed.ended (λ M 𝓤. face_open_failed.spec)
+  pub face_frame_status : AsksNothing face_frame_status.ended (λ M 𝓤. face_frame_status.spec)
+  pub face_closed : AsksNothing face_closed.ended (λ M 𝓤. face_closed.spec)
+  pub face_enable : AsksNothing face_enable.ended (λ M 𝓤. face_enable.spec)
+  pub face_disable : AsksNothing face_disable.ended (λ M 𝓤. face_disable.spec)
 
 pub ports : Ports
 ports = record {

@@ -1,4 +1,12 @@
 -- What the functions ask of their arguments holds of all of them: text by lines, a program's streams, and readrun's lines. Assumes nothing.
+use mir.Syntax.{Dict}
+use borrow.Fn.Kinds as kinds
+use contract.Lifetimes.{Lfts, lft_at}
+use contract.BorrowLft.{◌⊑◌}
+use denote.RattleType.{RattleType}
+use denote.Param.Laws.{Laws}
+use Rattle.std.specs.declared.io.traits.Read
+use Rattle.std.specs.declared.io.traits.Write
 use Rattle.lines.proofs.read_number.Kinds as read-number-of
 use Rattle.lines.proofs.read_number.Reads as read_number
 use Rattle.lines.proofs.place_from.Kinds as place-from-of
@@ -42,8 +50,9 @@ pub record Text : Type 2 where
   pub take_line : Anything 2 take-line-of.ps take_line.Pre
   pub feed : Anything 2 feed-of.ps feed.Pre
   pub close : Anything 1 close_of.ps close.Pre
-  pub stream_read : Anything 2 stream-read-of.ps stream_read.Pre
-  pub stream_write : Anything 2 stream-write-of.ps stream_write.Pre
+  -- over any reader and any writers: only that their types live where they are lent is asked, which the language sees to
+  pub stream_read : (R E : RattleType) (l : Laws R) (m : Laws E) (r : Read.Ghosts R.Denot) (d : Dict) (e : Write.Ghosts E.Denot) (f : Dict) (κs : Lfts 6) (a : kinds.Dens κs (stream-read-of.ps R E l m)) → (lft_at 6 4 tt κs ⊑ R.lives) × (lft_at 6 5 tt κs ⊑ E.lives) → stream_read.Pre R E l m r d e f κs a
+  pub stream_write : (W E : RattleType) (l : Laws W) (m : Laws E) (w : Write.Ghosts W.Denot) (d : Dict) (e : Write.Ghosts E.Denot) (f : Dict) (κs : Lfts 6) (a : kinds.Dens κs (stream-write-of.ps W E l m)) → (lft_at 6 4 tt κs ⊑ W.lives) × (lft_at 6 5 tt κs ⊑ E.lives) → stream_write.Pre W E l m w d e f κs a
 
 pub text : Text
 text = record {
@@ -59,6 +68,6 @@ text = record {
   take_line = λ κs a. tt;
   feed = λ κs a. tt;
   close = λ κs a. tt;
-  stream_read = λ κs a. tt;
-  stream_write = λ κs a. tt;
+  stream_read = λ R E l m r d e f κs a lives. lives;
+  stream_write = λ W E l m w d e f κs a lives. lives;
 }

@@ -160,16 +160,16 @@ pub record Ports : Type 2 where
   pub port_closed_core : One 0 port-closed-core-of.ps port-closed-core-of.r (none 0 port-closed-core-of.ps port-closed-core-of.r) port_closed_core.Post
   pub port_enable_core : One 0 port-enable-core-of.ps port-enable-core-of.r (none 0 port-enable-core-of.ps port-enable-core-of.r) port_enable_core.Post
   pub port_disable_core : One 0 port-disable-core-of.ps port-disable-core-of.r (none 0 port-disable-core-of.ps port-disable-core-of.r) port_disable_core.Post
-  pub call_setup : OneEnd call_setup.ended (λ M. call_setup.spec) (λ κs e. e.0.now)
-  pub call_submit : OneEnd call_submit.ended (λ M. call_submit.spec) (λ κs e. e.0.now)
-  pub call_cancel : OneEnd call_cancel.ended (λ M. call_cancel.spec) (λ κs e. e.0.now)
-  pub call_choose : OneEnd call_choose.ended (λ M. call_choose.spec) (λ κs e. e.0.now)
-  pub call_opened : OneEnd call_opened.ended (λ M. call_opened.spec) (λ κs e. e.0.now)
-  pub call_open_failed : OneEnd call_open_failed.ended (λ M. call_open_failed.spec) (λ κs e. e.0.now)
-  pub call_frame_status : OneEnd call_frame_status.ended (λ M. call_frame_status.spec) (λ κs e. e.0.now)
-  pub call_closed : OneEnd call_closed.ended (λ M. call_closed.spec) (λ κs e. e.0.now)
-  pub call_enable : OneEnd call_enable.ended (λ M. call_enable.spec) (λ κs e. e.0.now)
-  pub call_disable : OneEnd call_disable.ended (λ M. call_disable.spec) (λ κs e. e.0.now)
+  pub call_setup : OneEnd call_setup.ended (λ M 𝓤. call_setup.spec) (λ κs e. e.0.now)
+  pub call_submit : OneEnd call_submit.ended (λ M 𝓤. call_submit.spec) (λ κs e. e.0.now)
+  pub call_cancel : OneEnd call_cancel.ended (λ M 𝓤. call_cancel.spec) (λ κs e. e.0.now)
+  pub call_choose : OneEnd call_choose.ended (λ M 𝓤. call_choose.spec) (λ κs e. e.0.now)
+  pub call_opened : OneEnd call_opened.ended (λ M 𝓤. call_opened.spec) (λ κs e. e.0.now)
+  pub call_open_failed : OneEnd call_open_failed.ended (λ M 𝓤. call_open_failed.spec) (λ κs e. e.0.now)
+  pub call_frame_status : OneEnd call_frame_status.ended (λ M 𝓤. call_frame_status.spec) (λ κs e. e.0.now)
+  pub call_closed : OneEnd call_closed.ended (λ M 𝓤. call_closed.spec) (λ κs e. e.0.now)
+  pub call_enable : OneEnd call_enable.ended (λ M 𝓤. call_enable.spec) (λ κs e. e.0.now)
+  pub call_disable : OneEnd call_disable.ended (λ M 𝓤. call_disable.spec) (λ κs e. e.0.now)
   pub lent_port_of : One 0 lent-port-of-of.ps lent-port-of-of.r (none 0 lent-port-of-of.ps lent-port-of-of.r) lent_port_of.Post
   pub lent_shown : One 0 lent-shown-of.ps lent-shown-of.r (none 0 lent-shown-of.ps lent-shown-of.r) lent_shown.Post
   pub lent_set_up : One 0 lent-set-up-of.ps lent-set-up-of.r (none 0 lent-set-up-of.ps lent-set-up-of.r) lent_set_up.Post
@@ -179,16 +179,16 @@ pub record Ports : Type 2 where
   pub lent_confirmed_of : One 0 lent-confirmed-of-of.ps lent-confirmed-of-of.r (none 0 lent-confirmed-of-of.ps lent-confirmed-of-of.r) lent_confirmed_of.Post
   pub lent_failure_of : One 0 lent-failure-of-of.ps lent-failure-of-of.r (none 0 lent-failure-of-of.ps lent-failure-of-of.r) lent_failure_of.Post
   pub lent_report_of : One 0 lent-report-of-of.ps lent-report-of-of.r (none 0 lent-report-of-of.ps lent-report-of-of.r) lent_report_of.Post
-  pub face_setup : OneEnd face_setup.ended (λ M. face_setup.spec) (λ κs e. e.0.now)
-  pub face_submit : OneEnd face_submit.ended (λ M. face_submit.spec) (λ κs e. e.0.now)
-  pub face_cancel : OneEnd face_cancel.ended (λ M. face_cancel.spec) (λ κs e. e.0.now)
-  pub face_choose : OneEnd face_choose.ended (λ M. face_choose.spec) (λ κs e. e.0.now)
-  pub face_opened : OneEnd face_opened.ended (λ M. face_opened.spec) (λ κs e. e.0.now)
-  pub face_open_failed : OneEnd face_open_failed.ended (λ M. face_open_failed.spec) (λ κs e. e.0.now)
-  pub face_frame_status : OneEnd face_frame_status.ended (λ M. face_frame_status.spec) (λ κs e. e.0.now)
-  pub face_closed : OneEnd face_closed.ended (λ M. face_closed.spec) (λ κs e. e.0.now)
-  pub face_enable : OneEnd face_enable.ended (λ M. face_enable.spec) (λ κs e. e.0.now)
-  pub face_disable : OneEnd face_disable.ended (λ M. face_disable.spec) (λ κs e. e.0.now)
+  pub face_setup : OneEnd face_setup.ended (λ M 𝓤. face_setup.spec) (λ κs e. e.0.now)
+  pub face_submit : OneEnd face_submit.ended (λ M 𝓤. face_submit.spec) (λ κs e. e.0.now)
+  pub face_cancel : OneEnd face_cancel.ended (λ M 𝓤. face_cancel.spec) (λ κs e. e.0.now)
+  pub face_choose : OneEnd face_choose.ended (λ M 𝓤. face_choose.spec) (λ κs e. e.0.now)
+  pub face_opened : OneEnd face_opened.ended (λ M 𝓤. face_opened.spec) (λ κs e. e.0.now)
+  pub face_open_failed : OneEnd face_open_failed.ended (λ M 𝓤. face_open_failed.spec) (λ κs e. e.0.now)
+  pub face_frame_status : OneEnd face_frame_status.ended (λ M 𝓤. face_frame_status.spec) (λ κs e. e.0.now)
+  pub face_closed : OneEnd face_closed.ended (λ M 𝓤. face_closed.spec) (λ κs e. e.0.now)
+  pub face_enable : OneEnd face_enable.ended (λ M 𝓤. face_enable.spec) (λ κs e. e.0.now)
+  pub face_disable : OneEnd face_disable.ended (λ M 𝓤. face_disable.spec) (λ κs e. e.0.now)
 
 pub ports : Ports
 ports = record {
