@@ -10,10 +10,10 @@ use Rattle.saved.proofs.save.Kinds as save-of
 use Rattle.saved.proofs.save.Reads as save
 use Rattle.saved.proofs.restore.Kinds as restore-of
 use Rattle.saved.proofs.restore.Reads as restore
-use Rattle.sonerwal.proofs.transfer.sonerwal_transfer_save.Kinds as c-save-of
-use Rattle.sonerwal.proofs.transfer.sonerwal_transfer_save.Reads as c_save
-use Rattle.sonerwal.proofs.transfer.sonerwal_transfer_restore.Kinds as c-restore-of
-use Rattle.sonerwal.proofs.transfer.sonerwal_transfer_restore.Reads as c_restore
+use Rattle.sonerwal.proofs.transfers.sonerwal_transfer_save.Kinds as c-save-of
+use Rattle.sonerwal.proofs.transfers.sonerwal_transfer_save.Reads as c_save
+use Rattle.sonerwal.proofs.transfers.sonerwal_transfer_restore.Kinds as c-restore-of
+use Rattle.sonerwal.proofs.transfers.sonerwal_transfer_restore.Reads as c_restore
 use Rattle.claims.specs.Swaps.{Savers}
 use Rattle.claims.proofs.Calls.{Outcome}
 

@@ -3,26 +3,26 @@ use Prim.Native.Nat.{ℕ}
 use mathlib.Core.List.{List}
 use lib.ListN.{get_or}
 use Rattle.transfer_lent.specs.Face.{Call, start}
-use Rattle.sonerwal.proofs.transfer.sonerwal_transfer_start.Kinds as start_of_lem
-use Rattle.sonerwal.proofs.transfer.sonerwal_transfer_start.Reads as start-reads
-use Rattle.sonerwal.proofs.transfer.sonerwal_transfer_frame.Kinds as frame-of
-use Rattle.sonerwal.proofs.transfer.sonerwal_transfer_frame.Reads as frame
-use Rattle.sonerwal.proofs.transfer.sonerwal_transfer_ack.Kinds as ack-of
-use Rattle.sonerwal.proofs.transfer.sonerwal_transfer_ack.Reads as ack
-use Rattle.sonerwal.proofs.transfer.sonerwal_transfer_nak.Kinds as nak-of
-use Rattle.sonerwal.proofs.transfer.sonerwal_transfer_nak.Reads as nak
-use Rattle.sonerwal.proofs.transfer.sonerwal_transfer_timeout.Kinds as timeout-of
-use Rattle.sonerwal.proofs.transfer.sonerwal_transfer_timeout.Reads as timeout
-use Rattle.sonerwal.proofs.transfer.sonerwal_transfer_lost.Kinds as lost-of
-use Rattle.sonerwal.proofs.transfer.sonerwal_transfer_lost.Reads as lost
-use Rattle.sonerwal.proofs.transfer.sonerwal_transfer_nexus.Kinds as nexus-of
-use Rattle.sonerwal.proofs.transfer.sonerwal_transfer_nexus.Reads as nexus
-use Rattle.sonerwal.proofs.transfer.sonerwal_transfer_cancel.Kinds as cancel-of
-use Rattle.sonerwal.proofs.transfer.sonerwal_transfer_cancel.Reads as cancel
-use Rattle.sonerwal.proofs.transfer.sonerwal_transfer_next.Kinds as next_of
-use Rattle.sonerwal.proofs.transfer.sonerwal_transfer_next.Reads as next
-use Rattle.sonerwal.proofs.transfer.sonerwal_transfer_length.Kinds as length-of
-use Rattle.sonerwal.proofs.transfer.sonerwal_transfer_length.Reads as length
+use Rattle.sonerwal.proofs.transfers.sonerwal_transfer_start.Kinds as start_of_lem
+use Rattle.sonerwal.proofs.transfers.sonerwal_transfer_start.Reads as start-reads
+use Rattle.sonerwal.proofs.transfers.sonerwal_transfer_frame.Kinds as frame-of
+use Rattle.sonerwal.proofs.transfers.sonerwal_transfer_frame.Reads as frame
+use Rattle.sonerwal.proofs.transfers.sonerwal_transfer_ack.Kinds as ack-of
+use Rattle.sonerwal.proofs.transfers.sonerwal_transfer_ack.Reads as ack
+use Rattle.sonerwal.proofs.transfers.sonerwal_transfer_nak.Kinds as nak-of
+use Rattle.sonerwal.proofs.transfers.sonerwal_transfer_nak.Reads as nak
+use Rattle.sonerwal.proofs.transfers.sonerwal_transfer_timeout.Kinds as timeout-of
+use Rattle.sonerwal.proofs.transfers.sonerwal_transfer_timeout.Reads as timeout
+use Rattle.sonerwal.proofs.transfers.sonerwal_transfer_lost.Kinds as lost-of
+use Rattle.sonerwal.proofs.transfers.sonerwal_transfer_lost.Reads as lost
+use Rattle.sonerwal.proofs.transfers.sonerwal_transfer_nexus.Kinds as nexus-of
+use Rattle.sonerwal.proofs.transfers.sonerwal_transfer_nexus.Reads as nexus
+use Rattle.sonerwal.proofs.transfers.sonerwal_transfer_cancel.Kinds as cancel-of
+use Rattle.sonerwal.proofs.transfers.sonerwal_transfer_cancel.Reads as cancel
+use Rattle.sonerwal.proofs.transfers.sonerwal_transfer_next.Kinds as next_of
+use Rattle.sonerwal.proofs.transfers.sonerwal_transfer_next.Reads as next
+use Rattle.sonerwal.proofs.transfers.sonerwal_transfer_length.Kinds as length-of
+use Rattle.sonerwal.proofs.transfers.sonerwal_transfer_length.Reads as length
 use Rattle.claims.proofs.Calls.{Outcome}
 use Rattle.claims.proofs.Named.{first3, behind3}
 

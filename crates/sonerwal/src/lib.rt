@@ -9,7 +9,7 @@ pub mod frames;
 pub mod link;
 pub mod ports;
 pub mod replies;
-pub mod transfer;
+pub mod transfers;
 pub mod writes;
 
 // Of the archive; the header has its own.

@@ -9,7 +9,7 @@ mod frames;
 mod link;
 mod ports;
 mod replies;
-mod transfer;
+mod transfers;
 mod writes;
 
 // Of the archive; the header has its own.

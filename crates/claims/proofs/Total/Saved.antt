@@ -7,10 +7,10 @@ use Rattle.transfer_lent.proofs.State.save.Kinds as lent-save-of
 use Rattle.transfer_lent.proofs.State.save.Reads as lent_save
 use Rattle.transfer_lent.proofs.State.restore.Kinds as lent-restore-of
 use Rattle.transfer_lent.proofs.State.restore.Reads as lent_restore
-use Rattle.sonerwal.proofs.transfer.sonerwal_transfer_save.Kinds as c-save-of
-use Rattle.sonerwal.proofs.transfer.sonerwal_transfer_save.Reads as c_save
-use Rattle.sonerwal.proofs.transfer.sonerwal_transfer_restore.Kinds as c-restore-of
-use Rattle.sonerwal.proofs.transfer.sonerwal_transfer_restore.Reads as c_restore
+use Rattle.sonerwal.proofs.transfers.sonerwal_transfer_save.Kinds as c-save-of
+use Rattle.sonerwal.proofs.transfers.sonerwal_transfer_save.Reads as c_save
+use Rattle.sonerwal.proofs.transfers.sonerwal_transfer_restore.Kinds as c-restore-of
+use Rattle.sonerwal.proofs.transfers.sonerwal_transfer_restore.Reads as c_restore
 use Rattle.claims.proofs.Calls.{Anything}
 
 pub record Saved : Type 2 where

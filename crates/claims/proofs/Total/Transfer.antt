@@ -51,26 +51,26 @@ use Rattle.transfer_lent.proofs.numbers.phase_of.Kinds as phase-of-of
 use Rattle.transfer_lent.proofs.numbers.phase_of.Reads as phase_of
 use Rattle.transfer_lent.proofs.numbers.answer_number.Kinds as answer-number-of
 use Rattle.transfer_lent.proofs.numbers.answer_number.Reads as answer_number
-use Rattle.sonerwal.proofs.transfer.sonerwal_transfer_start.Kinds as c-start-of
-use Rattle.sonerwal.proofs.transfer.sonerwal_transfer_start.Reads as c_start
-use Rattle.sonerwal.proofs.transfer.sonerwal_transfer_frame.Kinds as c-frame-of
-use Rattle.sonerwal.proofs.transfer.sonerwal_transfer_frame.Reads as c_frame
-use Rattle.sonerwal.proofs.transfer.sonerwal_transfer_ack.Kinds as c-ack-of
-use Rattle.sonerwal.proofs.transfer.sonerwal_transfer_ack.Reads as c_ack
-use Rattle.sonerwal.proofs.transfer.sonerwal_transfer_nak.Kinds as c-nak-of
-use Rattle.sonerwal.proofs.transfer.sonerwal_transfer_nak.Reads as c_nak
-use Rattle.sonerwal.proofs.transfer.sonerwal_transfer_timeout.Kinds as c-timeout-of
-use Rattle.sonerwal.proofs.transfer.sonerwal_transfer_timeout.Reads as c_timeout
-use Rattle.sonerwal.proofs.transfer.sonerwal_transfer_lost.Kinds as c-lost-of
-use Rattle.sonerwal.proofs.transfer.sonerwal_transfer_lost.Reads as c_lost
-use Rattle.sonerwal.proofs.transfer.sonerwal_transfer_nexus.Kinds as c-nexus-of
-use Rattle.sonerwal.proofs.transfer.sonerwal_transfer_nexus.Reads as c_nexus
-use Rattle.sonerwal.proofs.transfer.sonerwal_transfer_cancel.Kinds as c-cancel-of
-use Rattle.sonerwal.proofs.transfer.sonerwal_transfer_cancel.Reads as c_cancel
-use Rattle.sonerwal.proofs.transfer.sonerwal_transfer_next.Kinds as c-next-of
-use Rattle.sonerwal.proofs.transfer.sonerwal_transfer_next.Reads as c_next
-use Rattle.sonerwal.proofs.transfer.sonerwal_transfer_length.Kinds as c-length-of
-use Rattle.sonerwal.proofs.transfer.sonerwal_transfer_length.Reads as c_length
+use Rattle.sonerwal.proofs.transfers.sonerwal_transfer_start.Kinds as c-start-of
+use Rattle.sonerwal.proofs.transfers.sonerwal_transfer_start.Reads as c_start
+use Rattle.sonerwal.proofs.transfers.sonerwal_transfer_frame.Kinds as c-frame-of
+use Rattle.sonerwal.proofs.transfers.sonerwal_transfer_frame.Reads as c_frame
+use Rattle.sonerwal.proofs.transfers.sonerwal_transfer_ack.Kinds as c-ack-of
+use Rattle.sonerwal.proofs.transfers.sonerwal_transfer_ack.Reads as c_ack
+use Rattle.sonerwal.proofs.transfers.sonerwal_transfer_nak.Kinds as c-nak-of
+use Rattle.sonerwal.proofs.transfers.sonerwal_transfer_nak.Reads as c_nak
+use Rattle.sonerwal.proofs.transfers.sonerwal_transfer_timeout.Kinds as c-timeout-of
+use Rattle.sonerwal.proofs.transfers.sonerwal_transfer_timeout.Reads as c_timeout
+use Rattle.sonerwal.proofs.transfers.sonerwal_transfer_lost.Kinds as c-lost-of
+use Rattle.sonerwal.proofs.transfers.sonerwal_transfer_lost.Reads as c_lost
+use Rattle.sonerwal.proofs.transfers.sonerwal_transfer_nexus.Kinds as c-nexus-of
+use Rattle.sonerwal.proofs.transfers.sonerwal_transfer_nexus.Reads as c_nexus
+use Rattle.sonerwal.proofs.transfers.sonerwal_transfer_cancel.Kinds as c-cancel-of
+use Rattle.sonerwal.proofs.transfers.sonerwal_transfer_cancel.Reads as c_cancel
+use Rattle.sonerwal.proofs.transfers.sonerwal_transfer_next.Kinds as c-next-of
+use Rattle.sonerwal.proofs.transfers.sonerwal_transfer_next.Reads as c_next
+use Rattle.sonerwal.proofs.transfers.sonerwal_transfer_length.Kinds as c-length-of
+use Rattle.sonerwal.proofs.transfers.sonerwal_transfer_length.Reads as c_length
 use Rattle.claims.proofs.Calls.{Anything}
 
 pub record Transfer : Type 2 where

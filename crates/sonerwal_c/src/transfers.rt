@@ -16,7 +16,7 @@ pub extern "C" fn sonerwal_transfer_start(
 ) -> Step
     ensures { result ≡ face_of (start offset count size resends) s }
 {
-    sonerwal::transfer::sonerwal_transfer_start(s, offset, count, size, resends)
+    sonerwal::transfers::sonerwal_transfer_start(s, offset, count, size, resends)
 }
 
 // FRAME: the next frame goes, written by the caller itself.
@@ -24,7 +24,7 @@ pub extern "C" fn sonerwal_transfer_start(
 pub extern "C" fn sonerwal_transfer_frame(s: State) -> Step
     ensures { result ≡ face_of frame s }
 {
-    sonerwal::transfer::sonerwal_transfer_frame(s)
+    sonerwal::transfers::sonerwal_transfer_frame(s)
 }
 
 // ACK, which belongs to the oldest unanswered frame.
@@ -32,7 +32,7 @@ pub extern "C" fn sonerwal_transfer_frame(s: State) -> Step
 pub extern "C" fn sonerwal_transfer_ack(s: State) -> Step
     ensures { result ≡ face_of ack s }
 {
-    sonerwal::transfer::sonerwal_transfer_ack(s)
+    sonerwal::transfers::sonerwal_transfer_ack(s)
 }
 
 // NAK, which belongs to the oldest unanswered frame.
@@ -40,7 +40,7 @@ pub extern "C" fn sonerwal_transfer_ack(s: State) -> Step
 pub extern "C" fn sonerwal_transfer_nak(s: State) -> Step
     ensures { result ≡ face_of nak s }
 {
-    sonerwal::transfer::sonerwal_transfer_nak(s)
+    sonerwal::transfers::sonerwal_transfer_nak(s)
 }
 
 // TIMEOUT: an answer did not come in time.
@@ -48,7 +48,7 @@ pub extern "C" fn sonerwal_transfer_nak(s: State) -> Step
 pub extern "C" fn sonerwal_transfer_timeout(s: State) -> Step
     ensures { result ≡ face_of timeout s }
 {
-    sonerwal::transfer::sonerwal_transfer_timeout(s)
+    sonerwal::transfers::sonerwal_transfer_timeout(s)
 }
 
 // LOST: the connection was lost with answers due.
@@ -56,7 +56,7 @@ pub extern "C" fn sonerwal_transfer_timeout(s: State) -> Step
 pub extern "C" fn sonerwal_transfer_lost(s: State) -> Step
     ensures { result ≡ face_of lost s }
 {
-    sonerwal::transfer::sonerwal_transfer_lost(s)
+    sonerwal::transfers::sonerwal_transfer_lost(s)
 }
 
 // NEXUS: the nexus was lost.
@@ -64,7 +64,7 @@ pub extern "C" fn sonerwal_transfer_lost(s: State) -> Step
 pub extern "C" fn sonerwal_transfer_nexus(s: State) -> Step
     ensures { result ≡ face_of nexus s }
 {
-    sonerwal::transfer::sonerwal_transfer_nexus(s)
+    sonerwal::transfers::sonerwal_transfer_nexus(s)
 }
 
 // CANCEL.
@@ -72,7 +72,7 @@ pub extern "C" fn sonerwal_transfer_nexus(s: State) -> Step
 pub extern "C" fn sonerwal_transfer_cancel(s: State) -> Step
     ensures { result ≡ face_of cancel s }
 {
-    sonerwal::transfer::sonerwal_transfer_cancel(s)
+    sonerwal::transfers::sonerwal_transfer_cancel(s)
 }
 
 // FRAME, written to the front of frame with the data in body; the bytes past it stay, and on a refusal all of them.
@@ -87,7 +87,7 @@ pub extern "C" fn sonerwal_transfer_next(
 ) -> Step
     ensures { Next s destination source tag body.now frame.old result frame.new }
 {
-    sonerwal::transfer::sonerwal_transfer_next(s, destination, source, tag, body, frame)
+    sonerwal::transfers::sonerwal_transfer_next(s, destination, source, tag, body, frame)
 }
 
 // The length of the data that `sonerwal_transfer_next` wants; 0 where FRAME is refused.
@@ -95,7 +95,7 @@ pub extern "C" fn sonerwal_transfer_next(
 pub extern "C" fn sonerwal_transfer_length(s: State) -> u32
     ensures { result ≡ length_of s }
 {
-    sonerwal::transfer::sonerwal_transfer_length(s)
+    sonerwal::transfers::sonerwal_transfer_length(s)
 }
 
 // 02 a.2
@@ -104,7 +104,7 @@ pub extern "C" fn sonerwal_transfer_length(s: State) -> u32
 pub extern "C" fn sonerwal_transfer_save(s: State, form: u8, line: &mut [u8]) -> Saved
     ensures { Save s form line.old result line.new }
 {
-    sonerwal::transfer::sonerwal_transfer_save(s, form, line)
+    sonerwal::transfers::sonerwal_transfer_save(s, form, line)
 }
 
 // 02 a.2
@@ -113,5 +113,5 @@ pub extern "C" fn sonerwal_transfer_save(s: State, form: u8, line: &mut [u8]) ->
 pub extern "C" fn sonerwal_transfer_restore(line: &[u8]) -> Step
     ensures { result ≡ restore_of line.now }
 {
-    sonerwal::transfer::sonerwal_transfer_restore(line)
+    sonerwal::transfers::sonerwal_transfer_restore(line)
 }
