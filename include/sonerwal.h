@@ -7,7 +7,7 @@
  *
  * LINKING
  *
- * The archive is libsonerwal.a, for x86-64 (System V calling convention). `rt staticlib sonerwal` writes it to
+ * The archive is libsonerwal.a, for x86-64 (System V calling convention). `tests/archive` builds it in
  * target/staticlib/, and a program takes it as one more object:
  *
  *     cc -std=c99 -Iinclude program.c target/staticlib/libsonerwal.a -o program
