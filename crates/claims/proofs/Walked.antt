@@ -1,4 +1,4 @@
--- A function that is walked by hand has no `Reads`. Its `spec` is what the checker makes of its source, in the logic's own terms, and its
+-- A function's `spec` is what the checker makes of its source, in the logic's own terms, and its
 -- theorem says that the code meets just that: what it asks of a caller and what it promises are read off it. Assumes nothing.
 use mathlib.Core.Path.{◌≡◌}
 use seplogic.Ra.Ura.{Ura}
