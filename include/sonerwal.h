@@ -12,7 +12,7 @@
  *
  *     cc -std=c99 -Iinclude program.c target/staticlib/libsonerwal.a -o program
  *
- * It needs memmove() and memcpy() of the C library and nothing else. The calls keep nothing between them and
+ * It needs memmove(), memcpy() and memset() of the C library and nothing else. The calls keep nothing between them and
  * allocate nothing. What one does depends on its arguments alone, so they may run at the same time wherever they
  * don't share memory that one of them writes.
  *
