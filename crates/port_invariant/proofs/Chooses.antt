@@ -67,7 +67,7 @@ module _ (p : Port) (l : List Request) (size : length l ≡ 32) (eight : length 
   idle_keeps : Keeps (idle p now)
   idle_keeps = waits_on p l size eight was (idle p now).answer blank now on (λ h. absurd (omega arith)) (λ e. omega arith) (λ h. absurd (omega arith)) (idle p now).port
 
-  module _ (b : Pick) (in_List : b.slot < 32) (in_port : b.phy < 8) (waits : (get_or l b.slot blank).stage ≡ 1) where
+  module _ (b : Pick) (in_list : b.slot < 32) (in_port : b.phy < 8) (waits : (get_or l b.slot blank).stage ≡ 1) where
     abbrev r : Request
     r = get_or l b.slot blank
 
@@ -78,7 +78,7 @@ module _ (p : Port) (l : List Request) (size : length l ≡ 32) (eight : length 
     there e = omega arith
 
     held : Present r p.last
-    held = present_at p l was b.slot in_List there
+    held = present_at p l was b.slot in_list there
 
     -- the phy becomes g and the request e
     takes : (g : Phy) → PhyKept p.count g b.phy → (e : Request) → Linked f g b.phy r e b.slot → e.head ≡ r.head → e.loss ≡ r.loss → Present e now → (a : Answer) → a.slot ≡ b.slot → (q : Port)
@@ -90,7 +90,7 @@ module _ (p : Port) (l : List Request) (size : length l ≡ 32) (eight : length 
           timer = λ c. absurd (never c);
           phy = kept;
           linked = subst (λ (i : ℕ). Linked f g b.phy (get_or l i blank) e i) (sym same) linked;
-          entered = λ h. subst (λ (i : ℕ). Entered p l i e no_loss now) (sym same) (same_enters p l was b.slot in_List there e now head loss full);
+          entered = λ h. subst (λ (i : ℕ). Entered p l i e no_loss now) (sym same) (same_enters p l was b.slot in_list there e now head loss full);
         }) q
 
     module _ (idle-phy : f.stage ≡ 3) where
@@ -105,7 +105,7 @@ module _ (p : Port) (l : List Request) (size : length l ≡ 32) (eight : length 
 
       sent_keeps : Keeps (sent p r b now)
       sent_keeps =
-          takes g (busy_kept p.count g b.phy low (omega arith) protocol in_List (inl (inr (inl refl)))) e (join f g b.phy r e b.slot free refl (λ d. omega arith) refl refl in_port) refl refl
+          takes g (busy_kept p.count g b.phy low (omega arith) protocol in_list (inl (inr (inl refl)))) e (join f g b.phy r e b.slot free refl (λ d. omega arith) refl refl in_port) refl refl
           (busy_present r p.last now on held b.phy r.pbc r.awt r.first (old_first r p.last now on held)) (sent p r b now).answer refl (sent p r b now).port
         where
           g : Phy
@@ -127,7 +127,7 @@ module _ (p : Port) (l : List Request) (size : length l ≡ 32) (eight : length 
 
     open_keeps : f.stage ≡ 1 → Keeps (opening p r b now)
     open_keeps unconnected =
-        takes g (busy_kept p.count g b.phy (number_low p l was b.phy in_port (λ d. omega arith)) (omega arith) (omega arith) in_List (inl (inl refl))) e
+        takes g (busy_kept p.count g b.phy (number_low p l was b.phy in_port (λ d. omega arith)) (omega arith) (omega arith) in_list (inl (inl refl))) e
         (join f g b.phy r e b.slot (names_none p l was b.phy in_port 1 unconnected (inl (omega arith))) refl (λ d. omega arith) refl refl in_port) refl refl
         (opening_present r p.last now on held b.phy e.awt) (opening p r b now).answer refl (opening p r b now).port
       where
