@@ -10,7 +10,6 @@ ghost use Rattle.runs.specs.Feed.{run_of, carry_of, after, said};
 ghost use Rattle.runs.specs.Output.{output_of};
 
 use runs::Run;
-use std::alloc::Global;
 use std::io::{Read, Write};
 use streams::Got;
 
@@ -22,21 +21,21 @@ struct Went {
 }
 
 // Reads some of the input.
-fn get<R: Read, E: Write>(from: &mut R, input: &mut [u8], err: &mut E, alloc: Global) -> Got
+fn get<R: Read, E: Write>(from: &mut R, input: &mut [u8], err: &mut E) -> Got
     ensures bound { IsPrefixLen result.bytes input.new }
     ensures taken { Consumes (R.remaining from.old) (R.remaining from.new) (take result.bytes input.new) }
     ensures ended { result.failed ≡ false → result.bytes ≡ 0 → 0 < length input.old → IsAtEnd (R.remaining from.new) }
     ensures silent { result.failed ≡ false → Keeps (E.contents err.old) (E.contents err.new) }
 {
-    streams::read(from, input, b"readrun: reading", err, alloc)
+    streams::read(from, input, b"readrun: reading", err)
 }
 
 // Writes to the output, and answers whether all of it was taken.
-fn put<W: Write, E: Write>(to: &mut W, bytes: &[u8], err: &mut E, alloc: Global) -> bool
+fn put<W: Write, E: Write>(to: &mut W, bytes: &[u8], err: &mut E) -> bool
     ensures all { result ≡ true → Appends (W.contents to.old) (W.contents to.new) bytes.now }
     ensures silent { result ≡ true → Keeps (E.contents err.old) (E.contents err.new) }
 {
-    streams::write(to, bytes, b"readrun: writing", err, alloc)
+    streams::write(to, bytes, b"readrun: writing", err)
 }
 
 // Feeds a whole block, and writes what comes.
@@ -46,7 +45,6 @@ fn block<W: Write, E: Write>(
     out: &mut [u8],
     to: &mut W,
     err: &mut E,
-    alloc: Global,
 ) -> Went
     requires { longest_row ≤ length out.old }
     ensures carries { result.open ≡ true → carry_of result.run ≡ after (carry_of run) input.now }
@@ -60,7 +58,7 @@ fn block<W: Write, E: Write>(
         let fed = runs::feed(now, &input[from..], out);
         now = fed.run;
         let wrote = fed.wrote;
-        if !put(to, &out[..wrote], err, alloc) {
+        if !put(to, &out[..wrote], err) {
             return Went {
                 run: now,
                 open: false,
@@ -80,7 +78,6 @@ fn all<R: Read, W: Write, E: Write>(
     from: &mut R,
     to: &mut W,
     err: &mut E,
-    alloc: Global,
     input: &mut [u8],
     out: &mut [u8],
 ) -> bool
@@ -92,7 +89,7 @@ fn all<R: Read, W: Write, E: Write>(
     let mut ended = false;
     // A proved loop has to end, and nothing says that the input does.
     for _ in 0..u64::MAX {
-        let got = get(from, input, err, alloc);
+        let got = get(from, input, err);
         if got.failed {
             return false;
         }
@@ -101,7 +98,7 @@ fn all<R: Read, W: Write, E: Write>(
             ended = true;
             break;
         }
-        let went = block(run, &input[..n], out, to, err, alloc);
+        let went = block(run, &input[..n], out, to, err);
         if !went.open {
             return false;
         }
@@ -109,7 +106,7 @@ fn all<R: Read, W: Write, E: Write>(
     }
     let last = runs::close(run, out);
     let wrote = last.wrote;
-    put(to, &out[..wrote], err, alloc) & ended
+    put(to, &out[..wrote], err) & ended
 }
 
 fn main(rt: HostRuntime) {
@@ -119,7 +116,6 @@ fn main(rt: HostRuntime) {
         &mut rt.stdin(),
         &mut rt.stdout(),
         &mut rt.stderr(),
-        rt.alloc(),
         &mut input,
         &mut out,
     );

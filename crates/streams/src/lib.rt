@@ -8,7 +8,8 @@ ghost use Rattle.std.specs.Prelude.{◌≡◌, ◌≤◌, ◌<◌, ℕ, length, 
 ghost use Rattle.std.specs.Io.KnownBytes.{Appends, Consumes, Keeps, IsAtEnd};
 ghost use Rattle.streams.specs.Counts.{IsPrefixLen};
 
-use std::alloc::{AllocError, Global};
+mod words;
+
 use std::io;
 use std::io::{Error, ErrorKind, Read, Write};
 
@@ -20,13 +21,7 @@ pub struct Got {
 }
 
 // Reads some bytes, or says behind `what` why it can't.
-pub fn read<R: Read, E: Write>(
-    from: &mut R,
-    buf: &mut [u8],
-    what: &[u8],
-    said: &mut E,
-    alloc: Global,
-) -> Got
+pub fn read<R: Read, E: Write>(from: &mut R, buf: &mut [u8], what: &[u8], said: &mut E) -> Got
     ensures bound { IsPrefixLen result.bytes buf.new }
     ensures taken { Consumes (R.remaining from.old) (R.remaining from.new) (take result.bytes buf.new) }
     ensures ended { result.failed ≡ false → result.bytes ≡ 0 → 0 < length buf.old → IsAtEnd (R.remaining from.new) }
@@ -44,7 +39,7 @@ pub fn read<R: Read, E: Write>(
             }
             Err(e) => {
                 if e.kind() != ErrorKind::Interrupted {
-                    fail(&e, what, said, alloc);
+                    fail(&e, what, said);
                     return Got {
                         bytes: 0,
                         failed: true,
@@ -53,7 +48,7 @@ pub fn read<R: Read, E: Write>(
             }
         }
     }
-    fail(&Error::from(ErrorKind::Interrupted), what, said, alloc);
+    fail(&Error::from(ErrorKind::Interrupted), what, said);
     Got {
         bytes: 0,
         failed: true,
@@ -61,13 +56,7 @@ pub fn read<R: Read, E: Write>(
 }
 
 // Writes all of `bytes` and answers true; or says behind `what` why no more of them are taken, and answers false.
-pub fn write<W: Write, E: Write>(
-    to: &mut W,
-    bytes: &[u8],
-    what: &[u8],
-    said: &mut E,
-    alloc: Global,
-) -> bool
+pub fn write<W: Write, E: Write>(to: &mut W, bytes: &[u8], what: &[u8], said: &mut E) -> bool
     ensures all { result ≡ true → Appends (W.contents to.old) (W.contents to.new) bytes.now }
     ensures front { (n : ℕ) × (n ≤ length bytes.now) × Appends (W.contents to.old) (W.contents to.new) (take n bytes.now) }
     ensures silent { result ≡ true → Keeps (E.contents said.old) (E.contents said.new) }
@@ -80,13 +69,13 @@ pub fn write<W: Write, E: Write>(
         let answer = to.write(&bytes[from..]);
         let took = taken(answer);
         if took == 0 {
-            if !again(answer, what, said, alloc) {
+            if !again(answer, what, said) {
                 return false;
             }
         }
         from += took;
     }
-    fail(&Error::from(ErrorKind::Interrupted), what, said, alloc);
+    fail(&Error::from(ErrorKind::Interrupted), what, said);
     false
 }
 
@@ -103,7 +92,7 @@ fn taken(answer: io::Result<usize>) -> usize
 
 // Whether a write that took nothing, and answered so, is made again. If not, it is said why, but of an output that nobody reads any
 // more.
-fn again<E: Write>(answer: io::Result<usize>, what: &[u8], said: &mut E, alloc: Global) -> bool
+fn again<E: Write>(answer: io::Result<usize>, what: &[u8], said: &mut E) -> bool
     ensures { result ≡ true → Keeps (E.contents said.old) (E.contents said.new) }
 {
     match answer {
@@ -115,7 +104,7 @@ fn again<E: Write>(answer: io::Result<usize>, what: &[u8], said: &mut E, alloc: 
             ErrorKind::Interrupted => true,
             ErrorKind::BrokenPipe => false,
             _ => {
-                fail(&e, what, said, alloc);
+                fail(&e, what, said);
                 false
             }
         },
@@ -129,25 +118,13 @@ fn stuck<E: Write>(what: &[u8], said: &mut E) -> io::Result<()> {
 }
 
 // What fails, in the program's words and then the system's. What can't be said is left unsaid.
-fn fail<E: Write>(e: &Error, what: &[u8], said: &mut E, alloc: Global) {
-    let _ = tell(e, what, said, alloc);
+fn fail<E: Write>(e: &Error, what: &[u8], said: &mut E) {
+    let _ = tell(e, what, said);
 }
 
-fn tell<E: Write>(e: &Error, what: &[u8], said: &mut E, alloc: Global) -> io::Result<()> {
+fn tell<E: Write>(e: &Error, what: &[u8], said: &mut E) -> io::Result<()> {
     said.write_all(what)?;
     said.write_all(b": ")?;
-    match words(e, alloc) {
-        Ok(text) => said.write_all(text.as_bytes())?,
-        Err(_) => write!(said, "{e}")?,
-    }
+    said.write_all(words::of(e).text())?;
     said.write_all(b"\n")
-}
-
-// The system's words for an error, without its number, which stands behind them.
-fn words(e: &Error, alloc: Global) -> Result<String, AllocError> {
-    let mut text = format!(in alloc; "{e}")?;
-    if let Some(end) = text.find(" (os error ") {
-        text.truncate(end);
-    }
-    Ok(text)
 }

@@ -1,5 +1,4 @@
 // What is written to standard output, a piece at a time.
-use std::alloc::Global;
 use std::io;
 use std::io::{Stderr, Stdout, Write};
 
@@ -28,22 +27,21 @@ impl Write for Said {
 pub(crate) struct Ink {
     to: Stdout,
     said: Said,
-    alloc: Global,
 }
 
 impl Ink {
-    pub(crate) fn new(to: Stdout, errors: Stderr, alloc: Global) -> Ink {
+    pub(crate) fn new(to: Stdout, errors: Stderr) -> Ink {
         let said = Said {
             to: errors,
             closed: false,
         };
-        Ink { to, said, alloc }
+        Ink { to, said }
     }
 }
 
 // What fails is said, and once: nothing here stops at it, so standard error is closed behind the first line.
 pub(crate) fn text(to: &mut Ink, s: &[u8]) {
-    if !streams::write(&mut to.to, s, b"xl_table: writing", &mut to.said, to.alloc) {
+    if !streams::write(&mut to.to, s, b"xl_table: writing", &mut to.said) {
         to.said.closed = true;
     }
 }

@@ -19,7 +19,7 @@ mod words;
 use crate::ink::Ink;
 
 fn main(rt: HostRuntime) {
-    let mut to = Ink::new(rt.stdout(), rt.stderr(), rt.alloc());
+    let mut to = Ink::new(rt.stdout(), rt.stderr());
     table::print_states(&mut to);
     crossings::print_crossings(&mut to);
     refused::print_refusals(&mut to);
