@@ -23,7 +23,8 @@ use Rattle.port.specs.History.{State, Call, setup, submit, cancel, choose, opene
 use Rattle.port.specs.History as machine
 use Rattle.port_invariant.specs.Ranged.{Ranged}
 use Rattle.port_invariant.proofs.Leaves.{refused_so}
-use Rattle.port_invariant.proofs.Runs.{kept_since, never_three_since}
+use Rattle.port_invariant.proofs.Runs.{kept_since}
+use Rattle.port_invariant.proofs.Three.{never_three_since}
 use Rattle.port_lent.specs.declared.Port.{Port as LentPort}
 use Rattle.port_lent.specs.declared.PortStep.{PortStep}
 use Rattle.port_lent.specs.Numbers.{reason_number, word_number, detail_of}

@@ -52,7 +52,8 @@ use Rattle.port.proofs.Begins.{setup_kept}
 use Rattle.port.proofs.Chooses.{choose_tells}
 use Rattle.port_invariant.specs.Ranged.{Ranged}
 use Rattle.port_invariant.proofs.Leaves.{taken_so, refused_so}
-use Rattle.port_invariant.proofs.Runs.{kept_sound, kept_since, run_length, never_three_since}
+use Rattle.port_invariant.proofs.Runs.{kept_sound, kept_since, run_length}
+use Rattle.port_invariant.proofs.Three.{never_three_since}
 use Rattle.port_invariant.proofs.Timers.{timers_run_on}
 use Rattle.claims.proofs.Walked.{Means}
 

@@ -16,3 +16,4 @@ pub mod Timers
 pub mod Blocked
 pub mod Keeps
 pub mod Runs
+pub mod Three

@@ -1,22 +1,13 @@
 -- Over any list of calls the rules are kept, since each call keeps them; so after an accepted setup no call is refused for a state that
 -- breaks its rules. Assumes nothing.
 use Prim.Native.Nat.{ℕ}
-use mathlib.Core.Path.{◌≡◌, refl, sym, subst, ◌∙◌}
-use mathlib.Core.Bool.{Bool, true, false}
+use mathlib.Core.Path.{◌≡◌, refl, sym, ◌∙◌}
+use mathlib.Core.Bool.{false}
 use mathlib.Core.List.{List, [], ◌∷◌}
-use lib.Dec.{eqb}
 use lib.ListN.{length}
-use borrow.Author.Tests.{eq-eqb}
 use Rattle.laws.proofs.Bools.{never}
-use Rattle.refusals.specs.Causes.{Ground, First, here, later}
-use Rattle.refusals.specs.Refusals.{number_of}
-use Rattle.refusals.specs.declared.Refusal.{Refusal}
 use Rattle.port_rules.specs.Kept.{Kept}
-use Rattle.port_rows.specs.declared.Word.TheVariants.{Refused}
-use Rattle.port.specs.Grounds.{grounds_of}
-use Rattle.port.specs.History.{State, Call, setup, submit, cancel, choose, opened, open_failed, frame_status, closed, enable, disable, stepped_by, is_refused, leave, run}
-use Rattle.port.proofs.Refusals.{refused_exactly}
-use Rattle.port_invariant.specs.Ranged.{Ranged}
+use Rattle.port.specs.History.{State, Call, setup, stepped_by, is_refused, leave, run}
 use Rattle.port_invariant.proofs.Leaves.{leave_length}
 use Rattle.port_invariant.proofs.Keeps.{setup_sound, keeps}
 
@@ -39,41 +30,3 @@ kept_since count loss s accepted cs =
 pub run_length : (cs : List Call) (s : State) → length (run cs s).list ≡ length s.list
 run_length [] s = refl
 run_length (c ∷ cs) s = run_length cs (leave c s) ∙ leave_length c s
-
--- ---- refusal 3
-
--- where the test is passed P doesn't hold
-abbrev Denied : Bool → Type 0 → Type 0
-Denied true P = P → ⊥
-Denied false P = Unit {0}
-
--- no ground for refusal k holds
-abbrev NoneFor : Refusal → List Ground → Type 0
-NoneFor k [] = Unit {0}
-NoneFor k (g ∷ gs) = Denied (eqb (number_of g.refusal) (number_of k)) g.holds × NoneFor k gs
-
-not_first : (k : Refusal) (gs : List Ground) → NoneFor k gs → First gs k → ⊥
-not_first k [] off none = elim none [ ]
-not_first k (g ∷ gs) off (here h) = subst (λ (t : Bool). Denied t g.holds) (eq-eqb (number_of k) (number_of k) refl) off.0 h
-not_first k (g ∷ gs) off (later n f) = not_first k gs off.1 f
-
-module _ (s : State) (rules : Kept s.port s.list) where
-  unbroken : (c : Call) → Ranged c → NoneFor Refusal.Rules (grounds_of c s)
-  unbroken (setup count loss) range = (tt, (λ out. out range, tt))
-  unbroken (submit x) range = (tt, (tt, (λ broken. broken rules, (tt, (tt, (tt, tt))))))
-  unbroken (cancel x) range = (tt, (tt, (λ broken. broken rules, (tt, (tt, tt)))))
-  unbroken (choose x) range = (tt, (λ broken. broken rules, (tt, tt)))
-  unbroken (opened x) range = (tt, (λ broken. broken rules, (tt, (tt, (tt, tt)))))
-  unbroken (open_failed x) range = (tt, (tt, (λ broken. broken rules, (tt, (tt, (tt, tt))))))
-  unbroken (frame_status x) range = (tt, (λ broken. broken rules, (tt, (tt, (tt, tt)))))
-  unbroken (closed x) range = (tt, (λ broken. broken rules, (tt, (tt, (tt, tt)))))
-  unbroken (enable x) range = (tt, (λ broken. broken rules, (tt, (tt, (tt, tt)))))
-  unbroken (disable x) range = (tt, (λ broken. broken rules, (tt, (tt, (tt, tt)))))
-
-  -- a state that keeps the rules gives no refusal 3
-  pub no_three : (c : Call) → Ranged c → (stepped_by c s).answer.word ≡ Refused Refusal.Rules → ⊥
-  no_three c range e = not_first Refusal.Rules (grounds_of c s) (unbroken c range) ((refused_exactly c s Refusal.Rules).0 e)
-
-pub never_three_since : (count loss : ℕ) (s : State) → is_refused (stepped_by (setup count loss) s).answer.word ≡ false → (cs : List Call) (c : Call) → Ranged c
-    → (stepped_by c (run (setup count loss ∷ cs) s)).answer.word ≡ Refused Refusal.Rules → ⊥
-never_three_since count loss s accepted cs c range = no_three (run (setup count loss ∷ cs) s) (kept_since count loss s accepted cs) c range

@@ -1,1 +1,2 @@
+-- What readrun's answers cite.
 mod Program

@@ -3,55 +3,17 @@
 use Prim.Native.Nat.{ℕ, zero, suc, ◌≤◌}
 use mathlib.Core.Bool.{Bool, true, false}
 use mathlib.Core.List.{List, [], ◌∷◌, ◌++◌}
-use mathlib.Core.Logic.{inl, inr, ◌↔◌, ⊎_elim}
+use mathlib.Core.Logic.{inl, inr, ◌↔◌}
 use mathlib.Core.Path.{◌≡◌, refl, sym, ap, subst, ◌∙◌}
 use native.Mathlib.Omega.{arith}
-use lib.Dec.{ltb}
-use borrow.Author.Tests.{ltb-true, ltb-false, leb-true, lt-ltb, le-ltb, le-leb, not-false}
-use Rattle.laws.proofs.Bools.{by_test}
-use Rattle.refusals.proofs.Causes.{NoneGiven, by_causes}
+use borrow.Author.Tests.{lt-ltb, le-ltb, le-leb}
 use Rattle.reply.specs.Rules.{in_range, unstarted, keeps_rules}
-use Rattle.reply.specs.Steps.{refused, unfinished, waits, failed}
-use Rattle.reply.specs.Calls.{Call, start, respond, ack, nak, timeout, lost, nexus, cancel, causes_of, goes_on, step_of, run, Reachable}
+use Rattle.reply.specs.Steps.{failed}
+use Rattle.reply.specs.Calls.{Call, start, respond, ack, nak, timeout, lost, nexus, cancel, step_of, run, Reachable}
 use Rattle.reply.specs.declared.Reply.{Reply}
-use Rattle.reply.specs.declared.Stepped.{Stepped}
 use Rattle.reply.specs.declared.Phase.{Phase}
-use Rattle.reply.proofs.Facts.{Counted, PhaseRule, rules_say, in_ask, in_wait, unfinished_says}
-
-abbrev Good : Stepped → Type 0
-Good st = PhaseRule st.state.phase st.state
-
-module _ (s : Reply) (rule : PhaseRule s.phase s) where
-  in_phase : (p : Phase) → s.phase ≡ p → PhaseRule p s
-  in_phase p e = subst (λ (q : Phase). PhaseRule q s) e rule
-
-  underway : unfinished s.phase ≡ true → Counted s
-  underway e = ⊎_elim (in_phase Phase.Ask) (in_phase Phase.Wait) ((unfinished_says s.phase).0 e)
-
-  fails : waits s.phase ≡ true → Good (failed s)
-  unfolding failed
-  fails e =
-      let n = in_phase Phase.Wait (in_wait s.phase e) in
-      by_test Good (ltb s.used s.resends)
-      (λ t. let l = ltb-true s.used s.resends t in (n.0, omega arith))
-      (λ t. let l = ltb-false s.used s.resends t in let m = n.1 in (n, omega arith))
-
-  goes : (c : Call) → NoneGiven (causes_of c s) → Good (goes_on c s)
-  goes (start r) off = (leb-true r 255 (not-false _ off.0), omega arith)
-  goes respond off = in_phase Phase.Ask (in_ask s.phase (not-false _ off.1.0))
-  goes ack off = in_phase Phase.Wait (in_wait s.phase (not-false _ off.1.0))
-  goes nak off = fails (not-false _ off.1.0)
-  goes timeout off = fails (not-false _ off.1.0)
-  goes lost off = fails (not-false _ off.1.0)
-  goes nexus off = underway (not-false _ off.1.0)
-  goes cancel off = underway (not-false _ off.1.0)
-
-  step_good : (c : Call) → Good (step_of c s)
-  step_good c = by_causes Good (refused s) (λ k. rule) (causes_of c s) (goes_on c s) (goes c)
-
-run_good : (cs : List Call) (s : Reply) → PhaseRule s.phase s → PhaseRule (run cs s).phase (run cs s)
-run_good [] s rule = rule
-run_good (c ∷ cs) s rule = run_good cs (step_of c s).state (step_good s rule c)
+use Rattle.reply.proofs.Facts.{PhaseRule, rules_say}
+use Rattle.reply.proofs.Goes.{run_good}
 
 pub keeps_rules_lem : (cs : List Call) → keeps_rules (run cs unstarted) ≡ true
 keeps_rules_lem cs = (rules_say (run cs unstarted)).1 (run_good cs unstarted (refl, refl))

@@ -1,1 +1,2 @@
+-- What the answers of a write cite.
 mod Writes
