@@ -2,17 +2,15 @@
 -- since each call takes up what the last one carried over; a line says a command exactly if it is that command written; and a number
 -- is read as it is written. Assumes nothing.
 use Prim.Native.Nat.{ℕ, suc, ◌+◌, ◌≤◌, ◌<◌}
-use mathlib.Core.Bool.{Bool, true, false, cond}
-use mathlib.Core.List.{List, [], ◌∷◌, ◌++◌, map}
+use mathlib.Core.Bool.{Bool, cond}
+use mathlib.Core.List.{List, [], ◌++◌, map}
 use mathlib.Core.Path.{◌≡◌, refl, sym, ap, ◌∙◌}
 use native.Mathlib.Omega.{arith}
-use borrow.Author.Tests.{le-ltb, lt-ltb}
-use lib.Dec.{eqb}
+use borrow.Author.Tests.{lt-ltb}
 use lib.ListN.{length, take, drop, replicate, length-drop}
 use lib.Seq.{take-append_seam}
 use Rattle.laws.proofs.Lists.{front_again}
 use Rattle.lines.specs.Numbers.{read_number, decimal}
-use Rattle.lines.specs.Parts.{lf}
 use Rattle.lines.specs.declared.Number.TheVariants.{Value}
 use Rattle.lines.proofs.Numbers.{read_written, written_read}
 use Rattle.refusals.specs.declared.Refusal.{Refusal}
@@ -32,7 +30,7 @@ use Rattle.runs.specs.declared.Fed.{Fed}
 use Rattle.runs.proofs.Commands.{long}
 use Rattle.runs.proofs.Inverse.{said_is, is_said}
 use Rattle.runs.proofs.Carry.{after_append, said_append}
-use Rattle.runs.proofs.Output.{whole, carried, blocks, blocks_said, feed_within, feed_moves, feed_stops}
+use Rattle.runs.proofs.Output.{whole, carried, all_closed, blocks, blocks_said, feed_within, feed_moves, feed_stops}
 use Rattle.runs.proofs.Facts as facts
 use Rattle.claims.proofs.Calls.{ReadNumber, Fresh, Feed, Close}
 use Rattle.claims.proofs.Named.{digits, most, feed_run, feed_block, feed_lent, feed_left, close_run, close_lent, close_left}
@@ -111,14 +109,6 @@ stands (fed {input} {words} {run} r c e) =
           ∙ sym (said_append fresh input t)
           ∙ ap (λ (s : List ℕ). said fresh (input ++ s)) (sym (took c.met)),
     )
-
--- with room for a row the last line is taken
-all_closed : (room : ℕ) (c : Carry) (len : ℕ) → longest_row ≤ room → take (takes room c (closing len)) (closing len) ≡ closing len
-all_closed room c len h = by (eqb len 0)
-  where
-    by : (t : Bool) → take (takes room c (cond t [] (lf ∷ []))) (cond t [] (lf ∷ [])) ≡ cond t [] (lf ∷ [])
-    by true = refl
-    by false = ap (λ (u : Bool). take (cond u 0 1) (lf ∷ [])) (le-ltb room longest_row h)
 
 -- each call of a loop takes a byte at least
 few_calls : {block : List ℕ} {n : ℕ} → Loop block n → n ≤ length block
