@@ -1,6 +1,7 @@
 -- Demand 3, sentence by sentence, over any calls from the state before START, refused ones and later STARTs among them, plain frame
 -- calls and next-frame calls mixed. The history is read from the calls, and of a next-frame call from the bytes that it wrote.
 -- Assumes nothing.
+use Rattle.std.specs.Prelude.{Ok}
 use Prim.Native.Nat.{ℕ, ◌+◌, ◌*◌, ◌≤◌, ◌<◌}
 use mathlib.Core.Bool.{true, false, cond}
 use mathlib.Core.List.{List, [], ◌∷◌, ◌++◌}
@@ -58,7 +59,7 @@ pub record Balance : Type 0 where
   -- if frames were sent in the present attempt and all were ACKed, it stands at the end of the last;
   pub settled : (r : Run) (f : Frame) (fs : List Frame) → (view (past r)).attempt ≡ f ∷ fs → (view (past r)).good ≡ (view (past r)).attempt → (now r).balance ≡ f.at + f.len
   -- "delivered" is answered only once every requested byte was ACKed;
-  pub delivers : (r : Run) → (next r).answer ≡ Answer.Done → (x : ℕ) → (now r).offset ≤ x → x < end_of (now r) → Covered x (view (added r ++ past r)).acked
+  pub delivers : (r : Run) → (next r).answer ≡ Ok Answer.Done → (x : ℕ) → (now r).offset ≤ x → x < end_of (now r) → Covered x (view (added r ++ past r)).acked
   -- at most 64 frames are unanswered.
   pub few : (r : Run) → length (view (past r)).waiting ≤ 64
   -- and as many may be
@@ -78,7 +79,7 @@ pub record Balance : Type 0 where
   pub addressed : (r : Run) (destination source tag : ℕ) (body out : List ℕ) → r.last ≡ Call.next destination source tag body out → is_refused (next r).answer ≡ false → Addressed (output_of limit r.last (now r)) (length body) destination source tag (now r).read
   -- what the depth computation lost: with the bytes of one image lent to each next-frame call at its offset, at "delivered" the
   -- payloads that the DATA reader finds in the ACKed frames' bytes cover the request, byte for byte of that image
-  pub image : (r : Run) (image : List ℕ) → AllFromImage image limit r.calls unstarted → FromImage image r.last (now r) → (next r).answer ≡ Answer.Done → (x : ℕ) → (now r).offset ≤ x → x < end_of (now r) → Shown image x (view (entries_of limit r.last (now r) ++ history limit r.calls unstarted [])).acked
+  pub image : (r : Run) (image : List ℕ) → AllFromImage image limit r.calls unstarted → FromImage image r.last (now r) → (next r).answer ≡ Ok Answer.Done → (x : ℕ) → (now r).offset ≤ x → x < end_of (now r) → Shown image x (view (entries_of limit r.last (now r) ++ history limit r.calls unstarted [])).acked
   -- no stuck state: from every unfinished state some calls reach done
   pub unstuck : (s : Transfer) → plainly.Reachable limit s → unfinished s.phase ≡ true → plainly.Finishes limit s
   -- no endless sending: at most (R+1) times ⌈N/M⌉ frames go for one START

@@ -1,5 +1,8 @@
 -- Demand 2, frames: both round trips of every frame, for what the calls themselves answer and leave, since their promises
 -- determine it. Assumes nothing.
+use Rattle.ssp_frame.specs.declared.Frame.{Frame}
+use Rattle.refusals.specs.declared.Refusal.{Refusal}
+use Rattle.std.specs.Prelude.{Ok, Ok as Data, Ok as Open, Ok as Out, Ok as Response, Ok as Xfer, Result}
 use Prim.Native.Nat.{ℕ, ◌+◌, ◌*◌, ◌/◌, ◌≤◌}
 use mathlib.Core.Bool.{true}
 use mathlib.Core.List.{List, [], ◌∷◌, ◌++◌, append-nil}
@@ -10,38 +13,28 @@ use native.Mathlib.Omega.{arith}
 use lib.Seq.{take_at}
 use borrow.Author.Tests.{eq-eqb, le-leb}
 use Rattle.refusals.specs.Causes.{Wrote}
-use Rattle.refusals.specs.declared.Written.{Written}
-use Rattle.refusals.specs.declared.Written.TheVariants.{Done}
 use Rattle.refusals.proofs.Frames.{done_wrote, wrote_is}
 use Rattle.open_frame.specs.Open.{open_bytes, not_carried, cleared, head_listed, Widths, read_open, write_causes as open_write_causes}
 use Rattle.open_frame.specs.declared.OpenFrame.{OpenFrame}
-use Rattle.open_frame.specs.declared.OpenRead.TheVariants.{Frame as Open}
 use Rattle.open_frame.proofs.Trip.{read_written as open-back, written_read as open-forth, found as open-fits}
 use Rattle.ssp_frame.specs.Data.{frame_end, data_bytes, data_left, data_sized, data_listed, Typed, read_data, write_causes as data_write_causes}
 use Rattle.ssp_frame.specs.declared.data.DataHead.{DataHead}
-use Rattle.ssp_frame.specs.declared.data.DataFrame.{DataFrame}
-use Rattle.ssp_frame.specs.declared.data.DataRead.TheVariants.{Frame as Data}
 use Rattle.ssp_frame.proofs.Fields.{Listed, fitting, is_fitting, listed_is, is_listed}
 use Rattle.ssp_frame.proofs.Trip.{read_written as data-back, written_read as data-forth, fits, frame_long, body_held}
 use Rattle.ssp_frame.specs.Typed.{xfer_typed, out_body, out_typed, sense_body, sense_typed, response_body, response_typed}
 use Rattle.ssp_frame.specs.Xfer.{xfer_bytes, xfer_left, xfer_listed, read_xfer_rdy, write_causes as xfer_write_causes}
 use Rattle.ssp_frame.specs.Xfer as xfer
 use Rattle.ssp_frame.specs.declared.xfer_rdy.XferHead.{XferHead}
-use Rattle.ssp_frame.specs.declared.xfer_rdy.XferRead.TheVariants.{Frame as Xfer}
 use Rattle.ssp_frame.proofs.XferFields as xfer_fields
 use Rattle.ssp_frame.proofs.XferTrip as xfer-trip
 use Rattle.ssp_frame.specs.Out.{out_bytes, out_left, out_listed, read_data_out, write_causes as out_write_causes}
 use Rattle.ssp_frame.specs.Out as out
 use Rattle.ssp_frame.specs.declared.data_out.OutHead.{OutHead}
-use Rattle.ssp_frame.specs.declared.data_out.OutFrame.{OutFrame}
-use Rattle.ssp_frame.specs.declared.data_out.OutRead.TheVariants.{Frame as Out}
 use Rattle.ssp_frame.proofs.OutFields as out_fields
 use Rattle.ssp_frame.proofs.OutTrip as out-trip
 use Rattle.ssp_frame.specs.Response.{response_end, response_bytes, response_left, response_sized, response_listed, read_response, write_causes as response_write_causes}
 use Rattle.ssp_frame.specs.Response as response
 use Rattle.ssp_frame.specs.declared.response.ResponseHead.{ResponseHead}
-use Rattle.ssp_frame.specs.declared.response.ResponseFrame.{ResponseFrame}
-use Rattle.ssp_frame.specs.declared.response.ResponseRead.TheVariants.{Frame as Response}
 use Rattle.ssp_frame.proofs.ResponseFields as response_fields
 use Rattle.ssp_frame.proofs.ResponseTrip as response-trip
 use Rattle.sonerwal.specs.Face.{Given, DataGiven, OpenWrites, DataWrites, XferWrites, OutWrites, ResponseWrites}
@@ -66,21 +59,21 @@ all_of frame before after n long e =
     e ∙ ap (λ (l : List ℕ). frame ++ l) none ∙ append-nil frame
 
 -- the round trips over the definitions, for any answer and bytes that a writer's promise admits
-module _ (f : OpenFrame) (before : List ℕ) {x : Written} {after : List ℕ} (w : Wrote (open_write_causes f before) (open_bytes f) before x after) where
-  open_wrote : x ≡ Done → Widths f → read_open after ≡ Open f
+module _ (f : OpenFrame) (before : List ℕ) {x : Result (Unit {0}) Refusal} {after : List ℕ} (w : Wrote (open_write_causes f before) (open_bytes f) before x after) where
+  open_wrote : x ≡ Ok tt → Widths f → read_open after ≡ Open f
   open_wrote e typed =
       let d = done_wrote (open_bytes f) before (eqb (length before) 28) (head_listed f.head) w e in
       ap read_open d.1.1 ∙ open-back f d.1.0 typed
 
-  read_back : (s : List ℕ) → Bytes s → read_open s ≡ Open f → length before ≡ 28 → (x ≡ Done) × (after ≡ cleared not_carried s)
+  read_back : (s : List ℕ) → Bytes s → read_open s ≡ Open f → length before ≡ 28 → (x ≡ Ok tt) × (after ≡ cleared not_carried s)
   read_back s small e long =
       let r = open-fits s f e in
       let listed : head_listed f.head ≡ true = sym (ap (λ (g : OpenFrame). head_listed g.head) r.same) ∙ r.listed in
       let d = wrote_is (open_bytes f) before w (eq-eqb (length before) 28 long) listed in
       (d.0, d.1 ∙ open-forth s f small e)
 
-module _ (h : DataHead) (body before : List ℕ) {x : Written} {after : List ℕ} (w : Wrote (data_write_causes h body before) (data_left h body before) before x after) where
-  data_wrote : x ≡ Done → Typed h → let s = take (frame_end (length body)) after in (read_data s ≡ Data (record { head = h; length = length body })) × (take (length body) (drop 24 s) ≡ body)
+module _ (h : DataHead) (body before : List ℕ) {x : Result (Unit {0}) Refusal} {after : List ℕ} (w : Wrote (data_write_causes h body before) (data_left h body before) before x after) where
+  data_wrote : x ≡ Ok tt → Typed h → let s = take (frame_end (length body)) after in (read_data s ≡ Data (record { head = h; length = length body })) × (take (length body) (drop 24 s) ≡ body)
   data_wrote e typed =
       let n = length body in
       let d = done_wrote (data_left h body before) before (data_sized n (length before)) (data_listed h) w e in
@@ -88,7 +81,7 @@ module _ (h : DataHead) (body before : List ℕ) {x : Written} {after : List ℕ
       let front = front_of (data_bytes h body) before after (frame_end n) (frame_long h body) d.1.1 in
       (ap read_data front ∙ data-back h body (listed_is h d.1.0) typed fits.least fits.most, ap (λ (l : List ℕ). take n (drop 24 l)) front ∙ body_held h body)
 
-  data_back_again : (s : List ℕ) (f : DataFrame) → Bytes s → read_data s ≡ Data f → h ≡ f.head → body ≡ take f.length (drop 24 s) → length before ≡ length s → (x ≡ Done) × (after ≡ s)
+  data_back_again : (s : List ℕ) (f : Frame DataHead) → Bytes s → read_data s ≡ Data f → h ≡ f.head → body ≡ take f.length (drop 24 s) → length before ≡ length s → (x ≡ Ok tt) × (after ≡ s)
   data_back_again s f small e eh eb el =
       let ok = fits s f small e in
       let n : length body ≡ f.length = ap length eb ∙ ok.count in
@@ -98,20 +91,20 @@ module _ (h : DataHead) (body before : List ℕ) {x : Written} {after : List ℕ
       let d = wrote_is (data_left h body before) before w sized listed in
       (d.0, all_of (data_bytes h body) before after (frame_end (length body)) end d.1 ∙ (λ i. data_bytes (eh i) (eb i)) ∙ data-forth s f small e)
 
-module _ (h : XferHead) (before : List ℕ) {x : Written} {after : List ℕ} (w : Wrote (xfer_write_causes h before) (xfer_left h before) before x after) where
-  xfer_wrote : x ≡ Done → xfer.Typed h → read_xfer_rdy (take 36 after) ≡ Xfer h
+module _ (h : XferHead) (before : List ℕ) {x : Result (Unit {0}) Refusal} {after : List ℕ} (w : Wrote (xfer_write_causes h before) (xfer_left h before) before x after) where
+  xfer_wrote : x ≡ Ok tt → xfer.Typed h → read_xfer_rdy (take 36 after) ≡ Xfer h
   xfer_wrote e typed =
       let d = done_wrote (xfer_left h before) before (leb 36 (length before)) (xfer_listed h) w e in
       ap read_xfer_rdy (front_of (xfer_bytes h) before after 36 refl d.1.1) ∙ xfer-trip.read_written h ((xfer_fields.listed h).0 d.1.0) typed
 
-  xfer_back_again : (s : List ℕ) → Bytes s → read_xfer_rdy s ≡ Xfer h → length before ≡ 36 → (x ≡ Done) × (after ≡ s)
+  xfer_back_again : (s : List ℕ) → Bytes s → read_xfer_rdy s ≡ Xfer h → length before ≡ 36 → (x ≡ Ok tt) × (after ≡ s)
   xfer_back_again s small e long =
       let listed = (xfer_fields.listed h).1 (xfer-trip.found_listed s h small (xfer-trip.found s h e)) in
       let d = wrote_is (xfer_left h before) before w (le-leb 36 (length before) (omega arith)) listed in
       (d.0, all_of (xfer_bytes h) before after 36 (sym long) d.1 ∙ xfer-trip.written_read s h small e)
 
-module _ (h : OutHead) (body before : List ℕ) {x : Written} {after : List ℕ} (w : Wrote (out_write_causes h body before) (out_left h body before) before x after) where
-  out_wrote : x ≡ Done → out.Typed h → let s = take (frame_end (length body)) after in (read_data_out s ≡ Out (record { head = h; length = length body })) × (take (length body) (drop 24 s) ≡ body)
+module _ (h : OutHead) (body before : List ℕ) {x : Result (Unit {0}) Refusal} {after : List ℕ} (w : Wrote (out_write_causes h body before) (out_left h body before) before x after) where
+  out_wrote : x ≡ Ok tt → out.Typed h → let s = take (frame_end (length body)) after in (read_data_out s ≡ Out (record { head = h; length = length body })) × (take (length body) (drop 24 s) ≡ body)
   out_wrote e typed =
       let n = length body in
       let d = done_wrote (out_left h body before) before (data_sized n (length before)) (out_listed h) w e in
@@ -121,7 +114,7 @@ module _ (h : OutHead) (body before : List ℕ) {x : Written} {after : List ℕ}
         ap (λ (l : List ℕ). take n (drop 24 l)) front ∙ out-trip.body_held h body,
       )
 
-  out_back_again : (s : List ℕ) (f : OutFrame) → Bytes s → read_data_out s ≡ Out f → h ≡ f.head → body ≡ take f.length (drop 24 s) → length before ≡ length s → (x ≡ Done) × (after ≡ s)
+  out_back_again : (s : List ℕ) (f : Frame OutHead) → Bytes s → read_data_out s ≡ Out f → h ≡ f.head → body ≡ take f.length (drop 24 s) → length before ≡ length s → (x ≡ Ok tt) × (after ≡ s)
   out_back_again s f small e eh eb el =
       let ok = out-trip.fits s f small e in
       let n : length body ≡ f.length = ap length eb ∙ ok.count in
@@ -131,8 +124,8 @@ module _ (h : OutHead) (body before : List ℕ) {x : Written} {after : List ℕ}
       let d = wrote_is (out_left h body before) before w sized listed in
       (d.0, all_of (out_bytes h body) before after (frame_end (length body)) end d.1 ∙ (λ i. out_bytes (eh i) (eb i)) ∙ out-trip.written_read s f small e)
 
-module _ (h : ResponseHead) (body before : List ℕ) {x : Written} {after : List ℕ} (w : Wrote (response_write_causes h body before) (response_left h body before) before x after) where
-  response_wrote : x ≡ Done → response.Typed h → let s = take (response_end (length body)) after in (read_response s ≡ Response (record { head = h; length = length body })) × (take (length body) (drop 48 s) ≡ body)
+module _ (h : ResponseHead) (body before : List ℕ) {x : Result (Unit {0}) Refusal} {after : List ℕ} (w : Wrote (response_write_causes h body before) (response_left h body before) before x after) where
+  response_wrote : x ≡ Ok tt → response.Typed h → let s = take (response_end (length body)) after in (read_response s ≡ Response (record { head = h; length = length body })) × (take (length body) (drop 48 s) ≡ body)
   response_wrote e typed =
       let n = length body in
       let d = done_wrote (response_left h body before) before (response_sized h.present n (length before)) (response_listed h) w e in
@@ -142,7 +135,7 @@ module _ (h : ResponseHead) (body before : List ℕ) {x : Written} {after : List
         ap (λ (l : List ℕ). take n (drop 48 l)) front ∙ response-trip.body_held h body,
       )
 
-  response_back_again : (s : List ℕ) (f : ResponseFrame) → Bytes s → read_response s ≡ Response f → h ≡ f.head → body ≡ take f.length (drop 48 s) → length before ≡ length s → (x ≡ Done) × (after ≡ s)
+  response_back_again : (s : List ℕ) (f : Frame ResponseHead) → Bytes s → read_response s ≡ Response f → h ≡ f.head → body ≡ take f.length (drop 48 s) → length before ≡ length s → (x ≡ Ok tt) × (after ≡ s)
   response_back_again s f small e eh eb el =
       let ok = response-trip.fits s f small e in
       let n : length body ≡ f.length = ap length eb ∙ ok.count in
@@ -167,20 +160,20 @@ pub record Frames : Type 0 where
   pub out_laid : out_bytes (record { destination = 66051; source = 263430; changing = 1; tag = 1800; transfer = 2314; offset = 185339150 }) out_body ≡ out_typed
   pub response_laid : (response_bytes (record { destination = 66051; source = 263430; retransmit = 1; tag = 1800; present = 2; status = 9 }) sense_body ≡ sense_typed)
       × (response_bytes (record { destination = 66051; source = 263430; retransmit = 0; tag = 1800; present = 1; status = 0 }) response_body ≡ response_typed)
-  pub open_written_read : (c : WriteOpen) (d : ReadOpen) → let w = open_write c in let r = open_read d in w.answer ≡ Done → Widths w.given → r.frame ≡ w.left → r.answer ≡ Open w.given
-  pub open_read_written : (d : ReadOpen) (c : WriteOpen) → let r = open_read d in let w = open_write c in Bytes r.frame → r.answer ≡ Open w.given → length w.lent ≡ 28 → (w.answer ≡ Done) × (w.left ≡ cleared not_carried r.frame)
-  pub data_written_read : (c : WriteData) (d : ReadData) → let w = data_write c in let r = data_read d in let n = length w.given.body in w.answer ≡ Done → Typed w.given.head → r.frame ≡ take (frame_end n) w.left → (r.answer ≡ Data (record { head = w.given.head; length = n })) × (take n (drop 24 r.frame) ≡ w.given.body)
-  pub data_read_written : (d : ReadData) (c : WriteData) (f : DataFrame) → let r = data_read d in let w = data_write c in Bytes r.frame → r.answer ≡ Data f → w.given.head ≡ f.head → w.given.body ≡ take f.length (drop 24 r.frame) → length w.lent ≡ length r.frame → (w.answer ≡ Done) × (w.left ≡ r.frame)
-  pub xfer_written_read : (c : WriteXfer) (d : ReadXfer) → let w = xfer_write c in let r = xfer_read d in w.answer ≡ Done → xfer.Typed w.given → r.frame ≡ take 36 w.left → r.answer ≡ Xfer w.given
-  pub xfer_read_written : (d : ReadXfer) (c : WriteXfer) → let r = xfer_read d in let w = xfer_write c in Bytes r.frame → r.answer ≡ Xfer w.given → length w.lent ≡ 36 → (w.answer ≡ Done) × (w.left ≡ r.frame)
-  pub out_written_read : (c : WriteOut) (d : ReadOut) → let w = out_write c in let r = out_read d in let n = length w.given.body in w.answer ≡ Done → out.Typed w.given.head → r.frame ≡ take (frame_end n) w.left
+  pub open_written_read : (c : WriteOpen) (d : ReadOpen) → let w = open_write c in let r = open_read d in w.answer ≡ Ok tt → Widths w.given → r.frame ≡ w.left → r.answer ≡ Open w.given
+  pub open_read_written : (d : ReadOpen) (c : WriteOpen) → let r = open_read d in let w = open_write c in Bytes r.frame → r.answer ≡ Open w.given → length w.lent ≡ 28 → (w.answer ≡ Ok tt) × (w.left ≡ cleared not_carried r.frame)
+  pub data_written_read : (c : WriteData) (d : ReadData) → let w = data_write c in let r = data_read d in let n = length w.given.body in w.answer ≡ Ok tt → Typed w.given.head → r.frame ≡ take (frame_end n) w.left → (r.answer ≡ Data (record { head = w.given.head; length = n })) × (take n (drop 24 r.frame) ≡ w.given.body)
+  pub data_read_written : (d : ReadData) (c : WriteData) (f : Frame DataHead) → let r = data_read d in let w = data_write c in Bytes r.frame → r.answer ≡ Data f → w.given.head ≡ f.head → w.given.body ≡ take f.length (drop 24 r.frame) → length w.lent ≡ length r.frame → (w.answer ≡ Ok tt) × (w.left ≡ r.frame)
+  pub xfer_written_read : (c : WriteXfer) (d : ReadXfer) → let w = xfer_write c in let r = xfer_read d in w.answer ≡ Ok tt → xfer.Typed w.given → r.frame ≡ take 36 w.left → r.answer ≡ Xfer w.given
+  pub xfer_read_written : (d : ReadXfer) (c : WriteXfer) → let r = xfer_read d in let w = xfer_write c in Bytes r.frame → r.answer ≡ Xfer w.given → length w.lent ≡ 36 → (w.answer ≡ Ok tt) × (w.left ≡ r.frame)
+  pub out_written_read : (c : WriteOut) (d : ReadOut) → let w = out_write c in let r = out_read d in let n = length w.given.body in w.answer ≡ Ok tt → out.Typed w.given.head → r.frame ≡ take (frame_end n) w.left
       → (r.answer ≡ Out (record { head = w.given.head; length = n })) × (take n (drop 24 r.frame) ≡ w.given.body)
-  pub out_read_written : (d : ReadOut) (c : WriteOut) (f : OutFrame) → let r = out_read d in let w = out_write c in Bytes r.frame → r.answer ≡ Out f → w.given.head ≡ f.head → w.given.body ≡ take f.length (drop 24 r.frame)
-      → length w.lent ≡ length r.frame → (w.answer ≡ Done) × (w.left ≡ r.frame)
-  pub response_written_read : (c : WriteResponse) (d : ReadResponse) → let w = response_write c in let r = response_read d in let n = length w.given.body in w.answer ≡ Done → response.Typed w.given.head → r.frame ≡ take (response_end n) w.left
+  pub out_read_written : (d : ReadOut) (c : WriteOut) (f : Frame OutHead) → let r = out_read d in let w = out_write c in Bytes r.frame → r.answer ≡ Out f → w.given.head ≡ f.head → w.given.body ≡ take f.length (drop 24 r.frame)
+      → length w.lent ≡ length r.frame → (w.answer ≡ Ok tt) × (w.left ≡ r.frame)
+  pub response_written_read : (c : WriteResponse) (d : ReadResponse) → let w = response_write c in let r = response_read d in let n = length w.given.body in w.answer ≡ Ok tt → response.Typed w.given.head → r.frame ≡ take (response_end n) w.left
       → (r.answer ≡ Response (record { head = w.given.head; length = n })) × (take n (drop 48 r.frame) ≡ w.given.body)
-  pub response_read_written : (d : ReadResponse) (c : WriteResponse) (f : ResponseFrame) → let r = response_read d in let w = response_write c in Bytes r.frame → r.answer ≡ Response f → w.given.head ≡ f.head → w.given.body ≡ take f.length (drop 48 r.frame)
-      → length w.lent ≡ length r.frame → (w.answer ≡ Done) × (w.left ≡ r.frame)
+  pub response_read_written : (d : ReadResponse) (c : WriteResponse) (f : Frame ResponseHead) → let r = response_read d in let w = response_write c in Bytes r.frame → r.answer ≡ Response f → w.given.head ≡ f.head → w.given.body ≡ take f.length (drop 48 r.frame)
+      → length w.lent ≡ length r.frame → (w.answer ≡ Ok tt) × (w.left ≡ r.frame)
   -- 01 DATA.5
   -- the same through C's calls, each number at its own place
   pub c_open_laid : (c : FaceOpenWrite) → let w = c_open_write c in open_given c ≡ open_numbers → length w.lent ≡ 28 → (w.answer ≡ 0) × (w.left ≡ open_typed)

@@ -1,5 +1,6 @@
 -- What C sees of each call of a link is the machine's own step on the state that the numbers say; whatever is refused comes back as it was
 -- lent; and over any calls from all zeros C sees the machine's run from XL0. Assumes nothing.
+use Rattle.std.specs.Prelude.{Err, None, Ok, Option, Some}
 use Prim.Native.Nat.{ℕ, min}
 use mathlib.Core.Bool.{true, false, not}
 use mathlib.Core.List.{List, [], ◌∷◌, map}
@@ -25,8 +26,6 @@ use Rattle.xl_parts.specs.declared.Stepped.{Stepped}
 use Rattle.xl_parts.specs.declared.LinkStatus.{LinkStatus}
 use Rattle.xl_parts.specs.Parts.{done, ready}
 use Rattle.xl_numbers.specs.declared.codes.Code.{Code}
-use Rattle.xl_numbers.specs.declared.codes.EventRead.{EventRead}
-use Rattle.xl_numbers.specs.declared.codes.ActionRead.{ActionRead}
 use Rattle.xl_numbers.specs.Codes.{event_number, event_of, action_of}
 use Rattle.xl_numbers.specs.States.{status_number}
 use Rattle.xl_numbers.proofs.CodeTrips.{event_named}
@@ -35,17 +34,16 @@ use Rattle.xl_rows.specs.Table.{takes}
 use Rattle.xl.specs.Steps.{has_frame, step_of, receive_of}
 use Rattle.xl.specs.Status.{in_phase, status_of}
 use Rattle.xl_lent.specs.declared.Link.{Link}
-use Rattle.xl_lent.specs.declared.Codes.{Codes}
 use Rattle.xl_lent.specs.declared.Step.{Step}
 use Rattle.xl_lent.specs.Lent.{state_of, shown, zeros}
 use Rattle.xl_lent.specs.Formed.{Formed}
-use Rattle.xl_lent.specs.Face.{refused, told, heard, link_event, link_receive, link_status, keeps_lent, Sees, codes_of}
+use Rattle.xl_lent.specs.Face.{refused, told, heard, link_event, link_receive, link_status, keeps_lent, Sees}
 use Rattle.xl_lent.specs.Typed.{typed_link, typed_state, blocked_link, blocked_state, closed_link, closed_state}
 use Rattle.xl_lent.proofs.Says.{formed_says}
 use Rattle.xl_lent.proofs.Trips.{state_back, narrow, shown_formed, lent_back, actions_back, zeros_ready, ready_zeros, typed_says, blocked_says, closed_says}
 use Rattle.xl_lent.proofs.Laws.{status_formed}
 use Rattle.xl_lent.proofs.Causes.{kept_causes, met_causes, receive_causes, met_is, receive_is, status_is}
-use Rattle.xl_calls.specs.Links.{Call, event, bytes, call_of, run, surprises, list_of}
+use Rattle.xl_calls.specs.Links.{Call, event, bytes, call_of, run, surprises}
 use Rattle.xl_calls.specs.After.{after}
 use Rattle.xl_calls.specs.Faces.{FaceCall, face_of, face_run, makes, made}
 use Rattle.xl_calls.proofs.Faces.{told_sees, event_told, receive_told, keeps_call, none_made, face_keeps, face_says, zeros_keeps, face_shown, behind, taken_kept, never_three}
@@ -60,7 +58,8 @@ use Rattle.claims.specs.LinkFace.{Keeps, Unnamed, Carries, event_grounds, open_g
 use Rattle.claims.specs.Links.{Brings, Rules}
 use Rattle.claims.proofs.Calls.{Outcome}
 use Rattle.claims.proofs.Grounds.{open_length, open_bytes_lem, open_fields}
-use Rattle.claims.proofs.LinkRefusals.{brings, rules_say, link_apart}
+use Rattle.refusals.proofs.Results.{apart}
+use Rattle.claims.proofs.LinkRefusals.{brings, rules_say}
 use Rattle.claims.proofs.Links.{links}
 
 -- ---- the calls from C
@@ -103,14 +102,14 @@ broken : (l : Link) → (not (keeps_lent l) ≡ true) ↔ (Keeps l → ⊥)
 broken l = unless (keeps_says l)
 
 -- the numbers of an event that is named are the event's, and no other's
-number_is : (c : Code) (e : Event) → event_of c ≡ EventRead.Named e → c ≡ event_number e
+number_is : (c : Code) (e : Event) → event_of c ≡ Some e → c ≡ event_number e
 number_is c e = (event_named c e).0
 
-one_event : (c : Code) (e f : Event) → event_of c ≡ EventRead.Named e → c ≡ event_number f → e ≡ f
-one_event c e f q n = let same : EventRead.Named e ≡ EventRead.Named f = sym q ∙ (event_named c f).1 n in cc
+one_event : (c : Code) (e f : Event) → event_of c ≡ Some e → c ≡ event_number f → e ≡ f
+one_event c e f q n = let same : Some e ≡ Some f = sym q ∙ (event_named c f).1 n in cc
 
 -- a frame goes with the three
-carries : (c : Code) (e : Event) → event_of c ≡ EventRead.Named e → Says (has_frame e) (Carries c)
+carries : (c : Code) (e : Event) → event_of c ≡ Some e → Says (has_frame e) (Carries c)
 carries c e q = means (brings e) (there, back)
   where
     there : Brings e → Carries c
@@ -123,10 +122,10 @@ carries c e q = means (brings e) (there, back)
     back (inr (inl h)) = inr (inl (one_event c e (Event.Router Message.SendOpen) q h))
     back (inr (inr h)) = inr (inr (one_event c e (Event.Router Message.BackoffReversePath) q h))
 
-no_event : (e : Event) → EventRead.Unnamed ≡ EventRead.Named e → ⊥
+no_event : (e : Event) → None ≡ Some e → ⊥
 no_event e p = let z : ◌≡◌ {A = ℕ} 0 1 = cc in omega arith
 
-unnamed_is : (c : Code) → event_of c ≡ EventRead.Unnamed → Unnamed c
+unnamed_is : (c : Code) → event_of c ≡ None → Unnamed c
 unnamed_is c q e n = no_event e (sym q ∙ (event_named c e).1 n)
 
 carries_none : (c : Code) → Unnamed c → Carries c → ⊥
@@ -155,17 +154,17 @@ event_refuses : (l : Link) (c : Code) (o : Open) → Refused (event_grounds l c 
 unfolding link_event
 event_refuses l c o = by (event_of c) refl
   where
-    by : (r : EventRead) → event_of c ≡ r → Refused (event_grounds l c o) l (link_event l c o)
-    by (EventRead.Named e) q =
+    by : (r : Option Event) → event_of c ≡ r → Refused (event_grounds l c o) l (link_event l c o)
+    by (Some e) q =
         let f = frame_of o in
         refuses l ((Refusal.Unlisted when false) ∷ met_causes l e f) (event_grounds l c o)
         (cons (impossible, λ none. absurd (none e (number_is c e q))) (cons (both (carries c e q) (unless (open_fields f.head))) (cons (broken l) nil)))
-        (told l (done (takes f e (state_of l)))) (link_event l c o) refl (ap (λ (r : EventRead). heard l r o) q ∙ met_is l e f)
-    by EventRead.Unnamed q =
+        (told l (done (takes f e (state_of l)))) (link_event l c o) refl (ap (λ (r : Option Event). heard l r o) q ∙ met_is l e f)
+    by None q =
         let none = unnamed_is c q in
         refuses l ((Refusal.Unlisted when true) ∷ (Refusal.Unlisted when false) ∷ kept_causes l) (event_grounds l c o)
         (cons (λ e. none, λ h. refl) (cons (impossible, λ h. absurd (carries_none c none h.0)) (cons (broken l) nil)))
-        (told l (done (takes (frame_of o) Event.Disable (state_of l)))) (link_event l c o) refl (ap (λ (r : EventRead). heard l r o) q)
+        (told l (done (takes (frame_of o) Event.Disable (state_of l)))) (link_event l c o) refl (ap (λ (r : Option Event). heard l r o) q)
 
 open_refuses : (l : Link) (b : List ℕ) → Bytes b → Refused (open_grounds l b) l (link_receive l b)
 open_refuses l b small =
@@ -173,13 +172,13 @@ open_refuses l b small =
     (told l (done (takes (opens.frame_of b) (Event.Line Primitive.Open) (state_of l)))) (link_receive l b) refl (receive_is l b)
 
 -- a status is no refusal
-status_apart : (s : State) (k : Refusal) → status_number (in_phase s.phase s.memory.aip) ≡ number_of k → ⊥
-status_apart s k e = link_apart s k (one_status (in_phase s.phase s.memory.aip) (LinkStatus.Refused k) e)
+status_apart : (s : State) (k : Refusal) → status_number (Ok (in_phase s.phase s.memory.aip)) ≡ number_of k → ⊥
+status_apart s k e = apart (in_phase s.phase s.memory.aip) k (one_status (Ok (in_phase s.phase s.memory.aip)) (Err k) e)
 
 status_refuses : (l : Link) (k : Refusal) → (link_status l ≡ number_of k) ↔ First (lent_grounds l) k
 status_refuses l k =
     let s = state_of l in
-    let n = status_number (in_phase s.phase s.memory.aip) in
+    let n = status_number (Ok (in_phase s.phase s.memory.aip)) in
     let d = cons (broken l) nil in (
       λ e. only number_of n one_number (status_apart s) d k (sym (status_is l) ∙ e),
       λ h. status_is l ∙ if_first number_of n one_number (status_apart s) d k h,
@@ -213,7 +212,7 @@ pub record LinkFace : Type 1 where
   pub sees_open : (c : LinkReceive) → Formed (receive_link c) → Sees (receive_of (receive_bytes c) (state_of (receive_link c))) c.answer
   pub sees_status : (c : LinkAsk) → Formed (ask_link c) → c.answer ≡ status_number (status_of (state_of (ask_link c)))
   -- the actions that C sees read back as the machine's, one by one
-  pub actions_back : (m : Stepped) (r : Step) → Sees m r → map action_of (codes_of r.actions) ≡ map ActionRead.Named (list_of m.actions)
+  pub actions_back : (m : Stepped) (r : Step) → Sees m r → map action_of r.actions ≡ map Some m.actions
   -- refusal k exactly if k is the first ground that holds, whatever is lent; a refusal gives back the link as it was lent, and no action
   pub refuses_event : (c : LinkEvent) → Refused (event_grounds (event_link c) (event_code c) (event_frame c)) (event_link c) c.answer
   pub refuses_open : (c : LinkReceive) → Bytes (receive_bytes c) → Refused (open_grounds (receive_link c) (receive_bytes c)) (receive_link c) c.answer
@@ -251,7 +250,7 @@ link_face = record {
   sees_event = λ c e w n. subst⁻¹ (Sees (step_of (frame_of (event_frame c)) e (state_of (event_link c)))) c.met (event_sees (event_link c) (event_code c) (event_frame c) e w n);
   sees_open = λ c w. subst⁻¹ (Sees (receive_of (receive_bytes c) (state_of (receive_link c)))) c.met (open_sees (receive_link c) (receive_bytes c) w);
   sees_status = λ c w. c.met ∙ sym (status_formed (ask_link c) ((formed_says (ask_link c)).1 w));
-  actions_back = λ m r sees. ap (λ (x : Codes). map action_of (codes_of x)) sees.actions ∙ actions_back m.actions;
+  actions_back = λ m r sees. ap (λ (x : List Code). map action_of x) sees.actions ∙ actions_back m.actions;
   refuses_event = λ c. subst⁻¹ (Refused (event_grounds (event_link c) (event_code c) (event_frame c)) (event_link c)) c.met (event_refuses (event_link c) (event_code c) (event_frame c));
   refuses_open = λ c small. subst⁻¹ (Refused (open_grounds (receive_link c) (receive_bytes c)) (receive_link c)) c.met (open_refuses (receive_link c) (receive_bytes c) small);
   refuses_status = λ c k. subst⁻¹ (λ (n : ℕ). (n ≡ number_of k) ↔ First (lent_grounds (ask_link c)) k) c.met (status_refuses (ask_link c) k);

@@ -1,4 +1,6 @@
 -- The numbers of what a link hears, does and remembers: each table is read backwards by its own list, as crate xl_numbers shows. Assumes nothing.
+use Rattle.refusals.specs.declared.Refusal.{Refusal}
+use Rattle.std.specs.Prelude.{Option, Result, Some}
 use Prim.Native.Nat.{ℕ, ◌<◌}
 use mathlib.Core.List.{[], ◌∷◌, map}
 use mathlib.Core.Path.{◌≡◌, refl}
@@ -13,13 +15,8 @@ use Rattle.xl_parts.specs.declared.BreakEvent.{BreakEvent}
 use Rattle.xl_parts.specs.declared.BreakAction.{BreakAction}
 use Rattle.xl_parts.specs.declared.Event.{Event}
 use Rattle.xl_parts.specs.declared.Action.{Action}
-use Rattle.xl_parts.specs.declared.Seen.{Seen}
 use Rattle.xl_parts.specs.declared.LinkStatus.{LinkStatus}
-use Rattle.xl_numbers.specs.declared.states.PhaseRead.{PhaseRead}
-use Rattle.xl_numbers.specs.declared.states.AipRead.{AipRead}
 use Rattle.xl_numbers.specs.declared.codes.Code.{Code}
-use Rattle.xl_numbers.specs.declared.codes.EventRead.{EventRead}
-use Rattle.xl_numbers.specs.declared.codes.ActionRead.{ActionRead}
 use Rattle.laws.specs.Names.{Named}
 use Rattle.xl_numbers.specs.Details.{wait_number, wait_of, reject_number, reject_of, denial_number, denial_of, arbitration_number, arbitration_of}
 use Rattle.xl_parts.specs.Parts.{phase_number}
@@ -33,22 +30,22 @@ use Rattle.xl_numbers.proofs.Typed.{events_typed, actions_typed, rejects_typed, 
 
 -- a number names a value exactly if it is the value's own
 pub record LinkNumbers : Type 0 where
-  pub phases : Named (λ (n : ℕ) (p : Phase). phase_of n ≡ PhaseRead.Named p) phase_number
-  pub aips : Named (λ (n : ℕ) (a : Seen). aip_of n ≡ AipRead.Named a) aip_number
-  pub events : Named (λ (c : Code) (e : Event). event_of c ≡ EventRead.Named e) event_number
-  pub actions : Named (λ (c : Code) (a : Action). action_of c ≡ ActionRead.Named a) action_number
+  pub phases : Named (λ (n : ℕ) (p : Phase). phase_of n ≡ Some p) phase_number
+  pub aips : Named (λ (n : ℕ) (a : Option Wait). aip_of n ≡ Some a) aip_number
+  pub events : Named (λ (c : Code) (e : Event). event_of c ≡ Some e) event_number
+  pub actions : Named (λ (c : Code) (a : Option Action). action_of c ≡ Some a) action_number
   -- the kinds within these
   pub waits : Named (λ (n : ℕ) (w : Wait). (n < 4) × (wait_of n ≡ w)) wait_number
   pub rejects : Named (λ (n : ℕ) (k : Reject). (n < 8) × (reject_of n ≡ k)) reject_number
   pub denials : Named (λ (n : ℕ) (d : Denial). (n < 4) × (denial_of n ≡ d)) denial_number
   pub arbitrations : Named (λ (n : ℕ) (a : Arbitration). (n < 3) × (arbitration_of n ≡ a)) arbitration_number
   -- no two statuses share a number
-  pub statuses : (a b : LinkStatus) → status_number a ≡ status_number b → a ≡ b
+  pub statuses : (a b : Result LinkStatus Refusal) → status_number a ≡ status_number b → a ≡ b
   -- what one link says has the numbers of what another hears
-  pub transmitted : (p : Primitive) → action_number (Action.Transmit p) ≡ event_number (Event.Line p)
-  pub sent : (m : Message) → action_number (Action.Send m) ≡ event_number (Event.Router m)
-  pub broken : action_number (Action.Break BreakAction.Transmit) ≡ event_number (Event.Break BreakEvent.Received)
-  pub routed : action_number (Action.Break BreakAction.Send) ≡ event_number (Event.Break BreakEvent.Routed)
+  pub transmitted : (p : Primitive) → action_number (Some (Action.Transmit p)) ≡ event_number (Event.Line p)
+  pub sent : (m : Message) → action_number (Some (Action.Send m)) ≡ event_number (Event.Router m)
+  pub broken : action_number (Some (Action.Break BreakAction.Transmit)) ≡ event_number (Event.Break BreakEvent.Received)
+  pub routed : action_number (Some (Action.Break BreakAction.Send)) ≡ event_number (Event.Break BreakEvent.Routed)
   -- and the numbers are those that are typed a second time
   pub typed_events_lem : map event_number typed_events ≡ typed_codes
   pub typed_actions_lem : map action_number typed_actions ≡ typed_action_codes

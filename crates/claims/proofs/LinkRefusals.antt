@@ -1,5 +1,6 @@
 -- A call of a link answers refusal k exactly if k is the first of document 01's causes that holds, and then leaves the state and does
 -- nothing: each of its tests decides one cause. Assumes nothing.
+use Rattle.std.specs.Prelude.{Err, Ok, Result, None, Option, Some}
 use Prim.Native.Nat.{ℕ}
 use mathlib.Core.Bool.{Bool, true, false, not, ◌&&◌}
 use mathlib.Core.List.{List, [], ◌∷◌, ◌++◌}
@@ -12,19 +13,16 @@ use Rattle.laws.specs.Tests.{Says}
 use Rattle.laws.proofs.Tests.{both, implies, unless, means}
 use Rattle.refusals.specs.Causes.{Cause, Ground, ◌when◌, refuse, First, Decides, nil, cons}
 use Rattle.refusals.specs.declared.Refusal.{Refusal}
+use Rattle.refusals.proofs.Results.{one, apart}
 use Rattle.refusals.proofs.Causes.{Verdict, stopped, passes, verdict, NoneGiven, only, if_first, through, refuse_append}
 use Rattle.open_frame.specs.Open.{head_listed, head_of, frame_of, typed, read_causes, read_open}
 use Rattle.open_frame.specs.declared.OpenFrame.{OpenFrame}
-use Rattle.open_frame.specs.declared.OpenRead.{OpenRead}
 use Rattle.xl_parts.specs.declared.Phase.{Phase}
 use Rattle.xl_parts.specs.declared.Primitive.{Primitive}
 use Rattle.xl_parts.specs.declared.Message.{Message}
 use Rattle.xl_parts.specs.declared.Event.{Event}
-use Rattle.xl_parts.specs.declared.Held.{Held}
-use Rattle.xl_parts.specs.declared.Seen.{Seen}
 use Rattle.xl_parts.specs.declared.Wait.{Wait}
 use Rattle.xl_parts.specs.declared.State.{State}
-use Rattle.xl_parts.specs.declared.Answer.{Answer}
 use Rattle.xl_parts.specs.declared.Stepped.{Stepped}
 use Rattle.xl_parts.specs.Parts.{done}
 use Rattle.xl_rows.specs.Table.{takes}
@@ -98,14 +96,14 @@ working p = (there p, back p)
     back Phase.Xl9 h = elim h [ ]
     back Phase.Xl10 h = elim h [ ]
 
-fields : (h : Held) → (fielded h ≡ true) ↔ Fields h
-fields Held.Nothing = (λ e. tt, λ h. refl)
-fields (Held.Frame f) = open_fields f.head
+fields : (h : Option OpenFrame) → (fielded h ≡ true) ↔ Fields h
+fields None = (λ e. tt, λ h. refl)
+fields (Some f) = open_fields f.head
 
 -- XL1 to XL6 hold a frame
-frame_held : (h : Held) → Says (is_frame h) (h ≡ Held.Nothing → ⊥)
-frame_held Held.Nothing = (impossible, λ n. absurd (n refl))
-frame_held (Held.Frame f) = (λ e n. never (sym (ap is_frame n)), λ n. refl)
+frame_held : (h : Option OpenFrame) → Says (is_frame h) (h ≡ None → ⊥)
+frame_held None = (impossible, λ n. absurd (n refl))
+frame_held (Some f) = (λ e n. never (sym (ap is_frame n)), λ n. refl)
 
 pub rules_say : (s : State) → Says (keeps_rules s) (Rules s)
 unfolding keeps_rules
@@ -121,28 +119,22 @@ step_decides f e s = cons (both (brings e) (unless (open_fields f.head))) (cons 
 
 -- what is claimed of a call with these grounds: a refusal gives only its number
 pub record Refuses (gs : List Ground) (s : State) (r : Stepped) : Type 1 where
-  pub exactly : (k : Refusal) → (r.answer ≡ Answer.Refused k) ↔ First gs k
-  pub only_number : (k : Refusal) → r.answer ≡ Answer.Refused k → r ≡ refused s k
-
-one : (j k : Refusal) → Answer.Refused j ≡ Answer.Refused k → j ≡ k
-one j k e = cc
-
-apart : (k : Refusal) → Answer.Done ≡ Answer.Refused k → ⊥
-apart k e = let z : ◌≡◌ {A = ℕ} 0 1 = cc in omega arith
+  pub exactly : (k : Refusal) → (r.answer ≡ Err k) ↔ First gs k
+  pub only_number : (k : Refusal) → r.answer ≡ Err k → r ≡ refused s k
 
 -- a step that is refused by some causes, and done otherwise
-refuses : (s : State) (cs : List Cause) (gs : List Ground) → Decides cs gs → (d r : Stepped) → d.answer ≡ Answer.Done → r ≡ refuse (refused s) cs d → Refuses gs s r
+refuses : (s : State) (cs : List Cause) (gs : List Ground) → Decides cs gs → (d r : Stepped) → d.answer ≡ Ok tt → r ≡ refuse (refused s) cs d → Refuses gs s r
 refuses s cs gs decides d r is-done is = record {
-  exactly = λ k. (λ e. only Answer.Refused Answer.Done one apart decides k (sym answer ∙ e), λ h. answer ∙ if_first Answer.Refused Answer.Done one apart decides k h);
+  exactly = λ k. (λ e. only Err (Ok tt) one (apart tt) decides k (sym answer ∙ e), λ h. answer ∙ if_first Err (Ok tt) one (apart tt) decides k h);
   only_number = λ k e. by k e (verdict cs);
 }
   where
-    answer : r.answer ≡ refuse Answer.Refused cs Answer.Done
-    answer = ap (λ (x : Stepped). x.answer) is ∙ through (λ (x : Stepped). x.answer) (refused s) cs d ∙ ap (refuse Answer.Refused cs) is-done
+    answer : r.answer ≡ refuse Err cs (Ok tt)
+    answer = ap (λ (x : Stepped). x.answer) is ∙ through (λ (x : Stepped). x.answer) (refused s) cs d ∙ ap (refuse Err cs) is-done
 
-    by : (k : Refusal) → r.answer ≡ Answer.Refused k → Verdict cs → r ≡ refused s k
-    by k e (stopped j h) = is ∙ h Stepped (refused s) d ∙ ap (refused s) (one j k (sym (answer ∙ h Answer Answer.Refused Answer.Done) ∙ e))
-    by k e (passes off h) = absurd (apart k (sym (answer ∙ h Answer Answer.Refused Answer.Done) ∙ e))
+    by : (k : Refusal) → r.answer ≡ Err k → Verdict cs → r ≡ refused s k
+    by k e (stopped j h) = is ∙ h Stepped (refused s) d ∙ ap (refused s) (one j k (sym (answer ∙ h (Result (Unit {0}) Refusal) Err (Ok tt)) ∙ e))
+    by k e (passes off h) = absurd (apart tt k (sym (answer ∙ h (Result (Unit {0}) Refusal) Err (Ok tt)) ∙ e))
 
 step_refuses : (f : OpenFrame) (e : Event) (s : State) (r : Stepped) → r ≡ step_of f e s → Refuses (step_grounds f e s) s r
 unfolding step_of
@@ -164,7 +156,7 @@ unfolding receive_of read_open step_of
 receive_is b s =
     let f = frame_of b in
     let e = Event.Line Primitive.Open in
-    through (λ (r : OpenRead). opened r s) OpenRead.Refused (read_causes b) (OpenRead.Frame f)
+    through (λ (r : Result OpenFrame Refusal). opened r s) Err (read_causes b) (Ok f)
     ∙ refuse_under (refused s) (read_causes b) (refuse (refused s) (causes f e s) (done (takes f e s))) (refuse (refused s) ((Refusal.Rules when not (keeps_rules s)) ∷ []) (done (takes f e s)))
     (λ off. ap (λ (t : Bool). refuse (refused s) ((Refusal.Unlisted when not t) ∷ (Refusal.Rules when not (keeps_rules s)) ∷ []) (done (takes f e s))) (and_right (typed b) _ (not-false (typed b && head_listed (head_of b)) off.1.0)))
     ∙ sym (refuse_append (refused s) (read_causes b) ((Refusal.Rules when not (keeps_rules s)) ∷ []) (done (takes f e s)))
@@ -174,56 +166,20 @@ receive_refuses b s r small is =
     refuses s (receive_causes b s) (receive_grounds b s) (cons (unless (open_length b)) (cons (unless (open_bytes_lem b small)) (cons (broken s) nil)))
     (done (takes (frame_of b) (Event.Line Primitive.Open) s)) r refl (is ∙ receive_is b s)
 
-link_one : (j k : Refusal) → LinkStatus.Refused j ≡ LinkStatus.Refused k → j ≡ k
-link_one j k e = cc
-
-is_refused : LinkStatus → Bool
-is_refused LinkStatus.Ready = false
-is_refused LinkStatus.Connected = false
-is_refused LinkStatus.BlockedPartial = false
-is_refused LinkStatus.Partial = false
-is_refused (LinkStatus.Refused k) = true
-
-waiting_is : (a : Seen) → is_refused (waiting a) ≡ false
-unfolding is_refused
-waiting_is Seen.Never = refl
-waiting_is (Seen.Latest Wait.Normal) = refl
-waiting_is (Seen.Latest Wait.Partial) = refl
-waiting_is (Seen.Latest Wait.Connection) = refl
-waiting_is (Seen.Latest Wait.Device) = refl
-
-in_phase_is : (p : Phase) (a : Seen) → is_refused (in_phase p a) ≡ false
-unfolding is_refused
-in_phase_is Phase.Xl0 a = refl
-in_phase_is Phase.Xl1 a = refl
-in_phase_is Phase.Xl2 a = refl
-in_phase_is Phase.Xl3 a = waiting_is a
-in_phase_is Phase.Xl4 a = refl
-in_phase_is Phase.Xl5 a = refl
-in_phase_is Phase.Xl6 a = waiting_is a
-in_phase_is Phase.Xl7 a = refl
-in_phase_is Phase.Xl8 a = refl
-in_phase_is Phase.Xl9 a = refl
-in_phase_is Phase.Xl10 a = refl
-
-pub link_apart : (s : State) (k : Refusal) → in_phase s.phase s.memory.aip ≡ LinkStatus.Refused k → ⊥
-unfolding is_refused
-link_apart s k e = never (sym (in_phase_is s.phase s.memory.aip) ∙ ap is_refused e)
-
-status_refuses : (s : State) (r : LinkStatus) → r ≡ status_of s → (k : Refusal) → (r ≡ LinkStatus.Refused k) ↔ First (status_grounds s) k
+status_refuses : (s : State) (r : Result LinkStatus Refusal) → r ≡ status_of s → (k : Refusal) → (r ≡ Err k) ↔ First (status_grounds s) k
 unfolding status_of
 status_refuses s r is k =
     let d = cons (broken s) nil in
     let a = in_phase s.phase s.memory.aip in (
-      λ e. only LinkStatus.Refused a link_one (link_apart s) d k (sym is ∙ e),
-      λ h. is ∙ if_first LinkStatus.Refused a link_one (link_apart s) d k h,
+      λ e. only Err (Ok a) one (apart a) d k (sym is ∙ e),
+      λ h. is ∙ if_first Err (Ok a) one (apart a) d k h,
     )
 
 -- 01 XL.4 01 XL.6 01 REFUSAL.1 01 REFUSAL.2 01 REFUSAL.3 01 REFUSAL.11 01 REFUSAL.12
 pub record LinkRefusals : Type 1 where
   pub step : (c : Step) → Refuses (step_grounds c.args.1.1.0 c.args.1.0 c.args.0) c.args.0 c.answer
   pub receive : (c : Receive) → Bytes c.args.1.0.now → Refuses (receive_grounds c.args.1.0.now c.args.0) c.args.0 c.answer
-  pub status : (c : Status) (k : Refusal) → (c.answer ≡ LinkStatus.Refused k) ↔ First (status_grounds c.args.0) k
+  pub status : (c : Status) (k : Refusal) → (c.answer ≡ Err k) ↔ First (status_grounds c.args.0) k
 
 pub link_refusals : LinkRefusals
 link_refusals = record {

@@ -1,30 +1,29 @@
 -- What the calls of frames, of a transfer and of text were given, lent and left, by name. The checker has a call's arguments as pairs
 -- within pairs, in the order of its source; they are counted out here, C's as include/sonerwal.h lists them. Assumes nothing.
+use Rattle.ssp_frame.specs.declared.Frame.{Frame}
+use Rattle.refusals.specs.declared.Refusal.{Refusal}
+use Rattle.std.specs.Prelude.{Result}
 use Prim.Native.Nat.{ℕ}
 use mathlib.Core.List.{List, [], ◌∷◌, ◌++◌, map}
 use lib.ListN.{get_or}
-use Rattle.refusals.specs.declared.Written.{Written}
 use Rattle.open_frame.specs.declared.OpenFrame.{OpenFrame}
-use Rattle.open_frame.specs.declared.OpenRead.{OpenRead}
 use Rattle.ssp_frame.specs.declared.data.DataHead.{DataHead}
-use Rattle.ssp_frame.specs.declared.data.DataFrame.{DataFrame}
-use Rattle.ssp_frame.specs.declared.data.DataRead.{DataRead}
 use Rattle.ssp_frame.specs.declared.xfer_rdy.XferHead.{XferHead}
-use Rattle.ssp_frame.specs.declared.xfer_rdy.XferRead.{XferRead}
 use Rattle.ssp_frame.specs.declared.data_out.OutHead.{OutHead}
-use Rattle.ssp_frame.specs.declared.data_out.OutFrame.{OutFrame}
-use Rattle.ssp_frame.specs.declared.data_out.OutRead.{OutRead}
 use Rattle.ssp_frame.specs.declared.response.ResponseHead.{ResponseHead}
-use Rattle.ssp_frame.specs.declared.response.ResponseFrame.{ResponseFrame}
-use Rattle.ssp_frame.specs.declared.response.ResponseRead.{ResponseRead}
 use Rattle.transfer.specs.Calls.{Call, start}
 use Rattle.transfer.specs.declared.Stepped.{Stepped}
 use Rattle.send.specs.Send.{head_of}
 use Rattle.send.specs.Calls as sending
 use Rattle.runs.specs.declared.Run.{Run}
 use Rattle.sonerwal.specs.Face.{Read, Write, Given, DataGiven, open9, data5, data6, xfer8, out6, out7, response6, response7}
+use Rattle.take.specs.declared.Command.{Command}
 use Rattle.claims.proofs.Calls.{ReadOpen, WriteOpen, ReadData, WriteData, FaceOpenRead, FaceOpenWrite, FaceDataRead, FaceDataWrite, HigherThan, Start, NextFrame, ReadNumber, Feed, Close}
 use Rattle.claims.proofs.Calls.{ReadXfer, WriteXfer, ReadOut, WriteOut, ReadResponse, WriteResponse, FaceXferRead, FaceXferWrite, FaceOutRead, FaceOutWrite, FaceResponseRead, FaceResponseWrite}
+
+-- a command's three numbers
+abbrev pub of_command : Command → List ℕ
+of_command m = m.destination ∷ m.source ∷ m.tag ∷ []
 
 -- three and six to nine of A, whatever R stands behind them
 abbrev pub first3 : {A R : Type 0} → A × (A × (A × R)) → List A
@@ -58,7 +57,7 @@ open_of ns = open9 (get_or ns 0 0) (get_or ns 1 0) (get_or ns 2 0) (get_or ns 3 
 abbrev pub head_of_lem : List ℕ → DataHead
 head_of_lem ns = data5 (get_or ns 0 0) (get_or ns 1 0) (get_or ns 2 0) (get_or ns 3 0) (get_or ns 4 0)
 
-abbrev pub data_of : List ℕ → DataFrame
+abbrev pub data_of : List ℕ → Frame DataHead
 data_of ns = data6 (get_or ns 0 0) (get_or ns 1 0) (get_or ns 2 0) (get_or ns 3 0) (get_or ns 4 0) (get_or ns 5 0)
 
 -- as an XFER_RDY, and as the heads and frames of data out and RESPONSE
@@ -68,49 +67,49 @@ xfer_of ns = xfer8 (get_or ns 0 0) (get_or ns 1 0) (get_or ns 2 0) (get_or ns 3 
 abbrev pub out_head_of : List ℕ → OutHead
 out_head_of ns = out6 (get_or ns 0 0) (get_or ns 1 0) (get_or ns 2 0) (get_or ns 3 0) (get_or ns 4 0) (get_or ns 5 0)
 
-abbrev pub out_of : List ℕ → OutFrame
+abbrev pub out_of : List ℕ → Frame OutHead
 out_of ns = out7 (get_or ns 0 0) (get_or ns 1 0) (get_or ns 2 0) (get_or ns 3 0) (get_or ns 4 0) (get_or ns 5 0) (get_or ns 6 0)
 
 abbrev pub response_head_of : List ℕ → ResponseHead
 response_head_of ns = response6 (get_or ns 0 0) (get_or ns 1 0) (get_or ns 2 0) (get_or ns 3 0) (get_or ns 4 0) (get_or ns 5 0)
 
-abbrev pub response_of : List ℕ → ResponseFrame
+abbrev pub response_of : List ℕ → Frame ResponseHead
 response_of ns = response7 (get_or ns 0 0) (get_or ns 1 0) (get_or ns 2 0) (get_or ns 3 0) (get_or ns 4 0) (get_or ns 5 0) (get_or ns 6 0)
 
 -- ---- the calls from Rattle; a reader is lent no fields
 
-abbrev pub open_read : ReadOpen → Read OpenRead (Unit {0})
+abbrev pub open_read : ReadOpen → Read (Result OpenFrame Refusal) (Unit {0})
 open_read c = record { frame = c.args.0.now; lent = tt; answer = c.answer; left = tt }
 
-abbrev pub open_write : WriteOpen → Write Written OpenFrame
+abbrev pub open_write : WriteOpen → Write (Result (Unit {0}) Refusal) OpenFrame
 open_write c = record { given = c.args.0; lent = c.args.1.0.now; answer = c.answer; left = c.exit.1.0.now }
 
-abbrev pub data_read : ReadData → Read DataRead (Unit {0})
+abbrev pub data_read : ReadData → Read (Result (Frame DataHead) Refusal) (Unit {0})
 data_read c = record { frame = c.args.0.now; lent = tt; answer = c.answer; left = tt }
 
-abbrev pub data_write : WriteData → Write Written DataGiven
+abbrev pub data_write : WriteData → Write (Result (Unit {0}) Refusal) DataGiven
 data_write c =
     let out = c.args.1.1.0 in
     record { given = record { head = c.args.0; body = c.args.1.0.now }; lent = out.now; answer = c.answer; left = c.exit.1.1.0.now }
 
-abbrev pub xfer_read : ReadXfer → Read XferRead (Unit {0})
+abbrev pub xfer_read : ReadXfer → Read (Result XferHead Refusal) (Unit {0})
 xfer_read c = record { frame = c.args.0.now; lent = tt; answer = c.answer; left = tt }
 
-abbrev pub xfer_write : WriteXfer → Write Written XferHead
+abbrev pub xfer_write : WriteXfer → Write (Result (Unit {0}) Refusal) XferHead
 xfer_write c = record { given = c.args.0; lent = c.args.1.0.now; answer = c.answer; left = c.exit.1.0.now }
 
-abbrev pub out_read : ReadOut → Read OutRead (Unit {0})
+abbrev pub out_read : ReadOut → Read (Result (Frame OutHead) Refusal) (Unit {0})
 out_read c = record { frame = c.args.0.now; lent = tt; answer = c.answer; left = tt }
 
-abbrev pub out_write : WriteOut → Write Written (Given OutHead)
+abbrev pub out_write : WriteOut → Write (Result (Unit {0}) Refusal) (Given OutHead)
 out_write c =
     let out = c.args.1.1.0 in
     record { given = record { head = c.args.0; body = c.args.1.0.now }; lent = out.now; answer = c.answer; left = c.exit.1.1.0.now }
 
-abbrev pub response_read : ReadResponse → Read ResponseRead (Unit {0})
+abbrev pub response_read : ReadResponse → Read (Result (Frame ResponseHead) Refusal) (Unit {0})
 response_read c = record { frame = c.args.0.now; lent = tt; answer = c.answer; left = tt }
 
-abbrev pub response_write : WriteResponse → Write Written (Given ResponseHead)
+abbrev pub response_write : WriteResponse → Write (Result (Unit {0}) Refusal) (Given ResponseHead)
 response_write c =
     let out = c.args.1.1.0 in
     record { given = record { head = c.args.0; body = c.args.1.0.now }; lent = out.now; answer = c.answer; left = c.exit.1.1.0.now }
@@ -149,7 +148,7 @@ c_open_read c = record { frame = c.args.0.now; lent = open_of (open_lent c); ans
 abbrev pub c_open_write : FaceOpenWrite → Write ℕ OpenFrame
 c_open_write c = record { given = open_of (open_given c); lent = (behind9 c.args).0.now; answer = c.answer; left = (behind9 c.exit).0.now }
 
-abbrev pub c_data_read : FaceDataRead → Read ℕ DataFrame
+abbrev pub c_data_read : FaceDataRead → Read ℕ (Frame DataHead)
 c_data_read c = record { frame = c.args.0.now; lent = data_of (data_lent c); answer = c.answer; left = data_of (data_left_lem c) }
 
 abbrev pub c_data_write : FaceDataWrite → Write ℕ DataGiven
@@ -190,7 +189,7 @@ c_xfer_read c = record { frame = c.args.0.now; lent = xfer_of (xfer_lent c); ans
 abbrev pub c_xfer_write : FaceXferWrite → Write ℕ XferHead
 c_xfer_write c = record { given = xfer_of (xfer_given c); lent = (behind6 c.args).1.1.0.now; answer = c.answer; left = (behind6 c.exit).1.1.0.now }
 
-abbrev pub c_out_read : FaceOutRead → Read ℕ OutFrame
+abbrev pub c_out_read : FaceOutRead → Read ℕ (Frame OutHead)
 c_out_read c = record { frame = c.args.0.now; lent = out_of (out_lent c); answer = c.answer; left = out_of (out_left_lem c) }
 
 abbrev pub c_out_write : FaceOutWrite → Write ℕ (Given OutHead)
@@ -198,7 +197,7 @@ c_out_write c =
     let slices = behind6 c.args in
     record { given = record { head = out_head_of (out_given c); body = slices.0.now }; lent = slices.1.0.now; answer = c.answer; left = (behind6 c.exit).1.0.now }
 
-abbrev pub c_response_read : FaceResponseRead → Read ℕ ResponseFrame
+abbrev pub c_response_read : FaceResponseRead → Read ℕ (Frame ResponseHead)
 c_response_read c = record { frame = c.args.0.now; lent = response_of (response_lent c); answer = c.answer; left = response_of (response_left_lem c) }
 
 abbrev pub c_response_write : FaceResponseWrite → Write ℕ (Given ResponseHead)

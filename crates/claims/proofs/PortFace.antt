@@ -1,5 +1,6 @@
 -- What C sees of each of the port's ten calls is the machine's own call on the port that the numbers say, in numbers, and the list as that call
 -- leaves it; whatever is refused comes back as it was lent; and over any calls C sees the machine's run. Assumes nothing.
+use Rattle.std.specs.Prelude.{Err, Result}
 use Prim.Native.Nat.{ℕ}
 use mathlib.Core.Bool.{true, false}
 use mathlib.Core.List.{List, [], ◌∷◌, map}
@@ -17,7 +18,6 @@ use Rattle.port_parts.specs.declared.Request.{Request}
 use Rattle.port_rules.specs.Kept.{Kept}
 use Rattle.port_rows.specs.declared.Answer.{Answer}
 use Rattle.port_rows.specs.declared.Word.{Word}
-use Rattle.port_rows.specs.declared.Word.TheVariants.{Refused}
 use Rattle.port.specs.Grounds.{grounds_of}
 use Rattle.port.specs.History.{State, Call, setup, submit, cancel, choose, opened, open_failed, frame_status, closed, enable, disable, done_of, stepped_by, is_refused}
 use Rattle.port.specs.History as machine
@@ -54,7 +54,7 @@ lent p l = record { port = p; list = l }
 -- ---- refusals
 
 -- by C's number
-refused_word : (c : Call) (s : Lent) (k : Refusal) → (face_of c s).answer ≡ number_of k → said c s ≡ Refused k
+refused_word : (c : Call) (s : Lent) (k : Refusal) → (face_of c s).answer ≡ number_of k → said c s ≡ Err k
 refused_word c s k n = (refusal_exactly (said c s) k).0 n
 
 refused_seen : (c : Call) (s : Lent) (k : Refusal) → (face_of c s).answer ≡ number_of k → (face_of c s ≡ refused (lent_to c s.port) k) × (list_of c s ≡ s.list)
@@ -80,7 +80,7 @@ module _ (count loss : ℕ) (s : Lent) (n : (face_of (setup count loss) s).answe
   never_three : (c : Call) → Ranged c → (face_of c behind).answer ≡ 3 → ⊥
   never_three c ranged e =
       never_three_since count loss (state_of s) (taken (setup count loss) s n) cs c ranged
-      (subst (λ (t : State). (stepped_by c t).answer.word ≡ Refused Refusal.Rules) (runs (setup count loss ∷ cs) s) (refused_word c behind Refusal.Rules e))
+      (subst (λ (t : State). (stepped_by c t).answer.word ≡ Err Refusal.Rules) (runs (setup count loss ∷ cs) s) (refused_word c behind Refusal.Rules e))
 
 -- 01 PORT.1 01 PORT.2 01 PORT.3 01 REFUSAL.1 01 REFUSAL.2 01 REFUSAL.3 01 REFUSAL.12 01 FORM.9
 pub record PortFace : Type 2 where
@@ -119,7 +119,7 @@ pub record PortFace : Type 2 where
   pub keeps_all : (count loss : ℕ) (s : Lent) → (face_of (setup count loss) s).answer ≡ 0 → (cs : List Call) → Keeps (run (setup count loss ∷ cs) s)
   pub never_three : (count loss : ℕ) (s : Lent) → (face_of (setup count loss) s).answer ≡ 0 → (cs : List Call) (c : Call) → Ranged c → (face_of c (run (setup count loss ∷ cs) s)).answer ≡ 3 → ⊥
   -- no two words share number and detail, and a reason's number is the one by which Open Failed takes it
-  pub one_word : (w v : Word) → word_number w ≡ word_number v → detail_of w ≡ detail_of v → w ≡ v
+  pub one_word : (w v : Result Word Refusal) → word_number w ≡ word_number v → detail_of w ≡ detail_of v → w ≡ v
   pub reason_back : (why : Reason) → reason_of (reason_number why) ≡ why
   -- the numbers are those typed a second time, and each number of a port stands in its own place
   pub typed_words_lem : map word_number typed_words ≡ typed_answers

@@ -1,5 +1,7 @@
 -- What a board keeps of C's answers counts submits and last words as the port's own history does: an answer's number tells which word it is, and
 -- the frame that C sees has the key of the request. Assumes nothing.
+use Rattle.refusals.specs.declared.Refusal.{Refusal}
+use Rattle.std.specs.Prelude.{Err, Ok, Result}
 use Prim.Native.Nat.{ℕ, ◌+◌, ◌<◌}
 use mathlib.Core.Bool.{Bool, true, false, cond, ◌&&◌}
 use mathlib.Core.List.{List, [], ◌∷◌, ◌++◌, map}
@@ -18,7 +20,7 @@ use Rattle.port_rules.specs.Kept.{InRange}
 use Rattle.port_rows.specs.Finds.{is_of}
 use Rattle.port_rows.specs.declared.Key.{Key}
 use Rattle.port_rows.specs.declared.Word.{Word}
-use Rattle.port_rows.specs.declared.Word.TheVariants.{Taken, Submitted, Nothing, Send, Open, Close, StopArb, Retried, Waiting, CancelAcknowledged, Ended, NexusLoss, ConnectionLost, Status, Refused}
+use Rattle.port_rows.specs.declared.Word.TheVariants.{Taken, Submitted, Nothing, Send, Open, Close, StopArb, Retried, Waiting, CancelAcknowledged, Ended, NexusLoss, ConnectionLost, Status}
 use Rattle.port.specs.Grounds.{HasKey, Absent}
 use Rattle.port.specs.History.{State, Call, setup, Entry, stepped_by, is_refused, is_last, entries_of, history}
 use Rattle.port_lent.specs.Numbers.{word_number}
@@ -35,26 +37,26 @@ abbrev seen : Entry → Noted
 seen e = record { call = e.call; answer = word_number e.answer.word; frame = frames.shown e.answer.frame }
 
 -- its number tells whether a word is Submitted, and whether it is a last one
-pub record Told (w : Word) : Type 0 where
+pub record Told (w : Result Word Refusal) : Type 0 where
   pub begins : is_submission (word_number w) ≡ is_submitted w
   pub ends : is_end (word_number w) ≡ is_last w
 
-told : (w : Word) → Told w
-told Taken = record { begins = refl; ends = refl }
-told Submitted = record { begins = refl; ends = refl }
-told Nothing = record { begins = refl; ends = refl }
-told Send = record { begins = refl; ends = refl }
-told Open = record { begins = refl; ends = refl }
-told Close = record { begins = refl; ends = refl }
-told StopArb = record { begins = refl; ends = refl }
-told Retried = record { begins = refl; ends = refl }
-told Waiting = record { begins = refl; ends = refl }
-told CancelAcknowledged = record { begins = refl; ends = refl }
-told (Ended why) = record { begins = refl; ends = refl }
-told NexusLoss = record { begins = refl; ends = refl }
-told ConnectionLost = record { begins = refl; ends = refl }
-told (Status byte) = record { begins = refl; ends = refl }
-told (Refused k) =
+told : (w : Result Word Refusal) → Told w
+told (Ok Taken) = record { begins = refl; ends = refl }
+told (Ok Submitted) = record { begins = refl; ends = refl }
+told (Ok Nothing) = record { begins = refl; ends = refl }
+told (Ok Send) = record { begins = refl; ends = refl }
+told (Ok Open) = record { begins = refl; ends = refl }
+told (Ok Close) = record { begins = refl; ends = refl }
+told (Ok StopArb) = record { begins = refl; ends = refl }
+told (Ok Retried) = record { begins = refl; ends = refl }
+told (Ok Waiting) = record { begins = refl; ends = refl }
+told (Ok CancelAcknowledged) = record { begins = refl; ends = refl }
+told (Ok (Ended why)) = record { begins = refl; ends = refl }
+told (Ok NexusLoss) = record { begins = refl; ends = refl }
+told (Ok ConnectionLost) = record { begins = refl; ends = refl }
+told (Ok (Status byte)) = record { begins = refl; ends = refl }
+told (Err k) =
     let few = (range k).1 in
     let below : number_of k < 40 = omega (arith, few) in
     record {

@@ -1,6 +1,7 @@
 -- What is shown of the port: its choice is the right one, its test of a lent state says document 01's rules, a call is refused exactly by
 -- the first ground that holds and then leaves every record, each call keeps the rules, so that no state that calls leave is refused, and a
 -- running loss timer runs on. What each of the ten functions promises, by the source, is what these say of its call. Assumes nothing.
+use Rattle.std.specs.Prelude.{Err, Ok}
 use Prim.Native.Nat.{ℕ, ◌<◌}
 use mathlib.Core.Bool.{Bool, true, false}
 use mathlib.Core.List.{List, ◌∷◌}
@@ -29,7 +30,7 @@ use Rattle.port_rules.specs.Kept.{Kept, InRange, Free}
 use Rattle.port_rules.proofs.Facts.{rules_say}
 use Rattle.port_rows.specs.Answers.{fresh, nameless, unnamed, refused_by}
 use Rattle.port_rows.specs.declared.Failure.{Failure}
-use Rattle.port_rows.specs.declared.Word.TheVariants.{Taken, Refused}
+use Rattle.port_rows.specs.declared.Word.TheVariants.{Taken}
 use Rattle.port.specs.Calls.{left_of, on_phy, pick_at}
 use Rattle.port.specs.Chooses.{Tells}
 use Rattle.port.specs.Grounds.{grounds_of}
@@ -90,7 +91,7 @@ pub record Ports : Type 2 where
   -- 01 PORT.4 01 PORT.5 01 PORT.6 01 PORT.7 01 PORT.8 01 PORT.9 01 PORT.10
   pub kept : (p : Port) (l : List Request) → Says (rules p l) (Kept p l)
   -- 01 PORT.2
-  pub begins : (count loss : ℕ) (l : List Request) → length l ≡ 32 → InRange count loss → Kept (fresh count loss) (left_of l (unnamed (fresh count loss) Taken true))
+  pub begins : (count loss : ℕ) (l : List Request) → length l ≡ 32 → InRange count loss → Kept (fresh count loss) (left_of l (unnamed (fresh count loss) (Ok Taken) true))
   -- 01 PORT.4 01 PORT.5 01 PORT.6 01 PORT.7 01 PORT.8 01 PORT.9 01 PORT.10
   -- each call leaves a state that keeps the rules; that a port has eight phys is its type's
   pub keeps : (c : Call) (s : State) → length s.port.phys ≡ 8 → Kept s.port s.list → (length (leave c s).port.phys ≡ 8) × Kept (leave c s).port (leave c s).list
@@ -98,14 +99,14 @@ pub record Ports : Type 2 where
   pub keeps_all : (count loss : ℕ) (s : State) → is_refused (stepped_by (setup count loss) s).answer.word ≡ false → (cs : List Call) → Kept (run (setup count loss ∷ cs) s).port (run (setup count loss ∷ cs) s).list
   pub as_long : (cs : List Call) (s : State) → length (run cs s).list ≡ length s.list
   -- 01 REFUSAL.3
-  pub never_three : (count loss : ℕ) (s : State) → is_refused (stepped_by (setup count loss) s).answer.word ≡ false → (cs : List Call) (c : Call) → Ranged c → (stepped_by c (run (setup count loss ∷ cs) s)).answer.word ≡ Refused Refusal.Rules → ⊥
+  pub never_three : (count loss : ℕ) (s : State) → is_refused (stepped_by (setup count loss) s).answer.word ≡ false → (cs : List Call) (c : Call) → Ranged c → (stepped_by c (run (setup count loss ∷ cs) s)).answer.word ≡ Err Refusal.Rules → ⊥
   -- what a call that is taken promises of the port and of the list is what these say that it leaves
   pub promised : (c : Call) (s : State) (r : Stepped) (after : List Request) → Does c s r after → is_refused r.answer.word ≡ false → leave c s ≡ record { port = r.port; list = after }
   -- 01 REFUSAL.12
   -- a refused call gives its number, and names no request and no phy; it leaves the port that it was lent, and every record
-  pub refused : (c : Call) (s : State) (k : Refusal) (r : Stepped) (after : List Request) → Does c s r after → r.answer.word ≡ Refused k → (r.port ≡ (short_of c s).port) × ((after ≡ s.list) × (r.answer ≡ nameless (Refused k)))
+  pub refused : (c : Call) (s : State) (k : Refusal) (r : Stepped) (after : List Request) → Does c s r after → r.answer.word ≡ Err k → (r.port ≡ (short_of c s).port) × ((after ≡ s.list) × (r.answer ≡ nameless (Err k)))
   -- 01 REFUSAL.1 01 REFUSAL.2 01 REFUSAL.3 01 REFUSAL.4 01 REFUSAL.5 01 REFUSAL.6 01 REFUSAL.9 01 REFUSAL.10 01 REFUSAL.14
-  pub refuses : (c : Call) (s : State) (k : Refusal) → ((stepped_by c s).answer.word ≡ Refused k) ↔ First (grounds_of c s) k
+  pub refuses : (c : Call) (s : State) (k : Refusal) → ((stepped_by c s).answer.word ≡ Err k) ↔ First (grounds_of c s) k
   pub leaves : (l : List Request) (p : Port) (k : Refusal) → left_of l (refused_by p k) ≡ l
 
 pub ports : Ports

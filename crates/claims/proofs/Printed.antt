@@ -1,6 +1,7 @@
 -- Demand 3 over what `readrun` reads and prints alone, sentence by sentence: B and N are those of the START line as typed, a frame lies
 -- between the read offsets of two lines, the answers are the lines of input that were not refused, and the balance point is a column.
 -- Assumes nothing.
+use Rattle.std.specs.Prelude.{Ok}
 use Prim.Native.Nat.{ℕ, ◌+◌, ◌≤◌, ◌<◌}
 use mathlib.Core.Bool.{true, false}
 use mathlib.Core.List.{List, [], ◌∷◌, ◌++◌}
@@ -41,7 +42,7 @@ pub record Printed : Type 0 where
   -- if frames were sent in the present attempt and all were ACKed, it stands at the end of the last;
   pub settled : (p : Place) (f : Frame) (fs : List Frame) → (seen p).attempt ≡ f ∷ fs → (seen p).good ≡ (seen p).attempt → (ledger p).balance ≡ f.at + f.len
   -- "delivered" is answered only once every requested byte was ACKed;
-  pub delivers : (p : Place) (t : Turn) (more : List Turn) → p.rest ≡ t ∷ more → t.shown.word ≡ Answer.Done → (x : ℕ) → (ledger p).offset ≤ x → x < (ledger p).offset + (ledger p).count → Covered x (view (adds (ledger p) t ++ (ledger p).history)).acked
+  pub delivers : (p : Place) (t : Turn) (more : List Turn) → p.rest ≡ t ∷ more → t.shown.word ≡ Ok Answer.Done → (x : ℕ) → (ledger p).offset ≤ x → x < (ledger p).offset + (ledger p).count → Covered x (view (adds (ledger p) t ++ (ledger p).history)).acked
   -- at most 64 frames are unanswered.
   pub few : (p : Place) → length (seen p).waiting ≤ 64
   -- Frames and answers are never matched by a short number."

@@ -1,5 +1,8 @@
 -- A call answers refusal k exactly if k is the first cause that holds, in document 01's order, and then leaves every lent number
 -- and byte as it was: its promise is the list of its tests, and each test decides its cause. Assumes nothing.
+use Rattle.ssp_frame.specs.declared.data.DataHead.{DataHead}
+use Rattle.ssp_frame.specs.declared.Frame.{Frame}
+use Rattle.std.specs.Prelude.{Err, Ok, Result}
 use Prim.Native.Nat.{ℕ, ◌≤◌}
 use mathlib.Core.Bool.{Bool, true}
 use mathlib.Core.List.{[], ◌∷◌, map}
@@ -11,33 +14,19 @@ use Rattle.laws.proofs.Tests.{equal, most}
 use Rattle.refusals.specs.Refusals.{number_of}
 use Rattle.refusals.specs.Causes.{refuse, buffer_causes, Wrote}
 use Rattle.refusals.specs.declared.Refusal.{Refusal}
-use Rattle.refusals.specs.declared.Written.{Written}
-use Rattle.refusals.specs.declared.Written.TheVariants.{Done, Refused as NotWritten}
+use Rattle.refusals.proofs.Results.{one, apart}
 use Rattle.refusals.proofs.Causes.{only, if_first, none_held, if_none, stays}
 use Rattle.refusals.proofs.Frames.{frame_decides}
 use Rattle.refusals.proofs.Numbers.{one_number, range, not_zero}
 use Rattle.open_frame.specs.Open.{frame_of, open_bytes, read_open, write_causes as open_write_causes}
 use Rattle.open_frame.specs.declared.OpenFrame.{OpenFrame}
-use Rattle.open_frame.specs.declared.OpenRead.{OpenRead}
-use Rattle.open_frame.specs.declared.OpenRead.TheVariants.{Frame as Open, Refused as NotOpen}
 use Rattle.ssp_frame.specs.Data.{data_left, data_of, read_data, write_causes as data_write_causes}
-use Rattle.ssp_frame.specs.declared.data.DataFrame.{DataFrame}
-use Rattle.ssp_frame.specs.declared.data.DataRead.{DataRead}
-use Rattle.ssp_frame.specs.declared.data.DataRead.TheVariants.{Frame as Data, Refused as NotData}
 use Rattle.ssp_frame.specs.Xfer.{xfer_left, xfer_of, read_xfer_rdy, write_causes as xfer_write_causes}
 use Rattle.ssp_frame.specs.declared.xfer_rdy.XferHead.{XferHead}
-use Rattle.ssp_frame.specs.declared.xfer_rdy.XferRead.{XferRead}
-use Rattle.ssp_frame.specs.declared.xfer_rdy.XferRead.TheVariants.{Frame as Xfer, Refused as NotXfer}
 use Rattle.ssp_frame.specs.Out.{out_left, out_of, read_data_out, write_causes as out_write_causes}
 use Rattle.ssp_frame.specs.declared.data_out.OutHead.{OutHead}
-use Rattle.ssp_frame.specs.declared.data_out.OutFrame.{OutFrame}
-use Rattle.ssp_frame.specs.declared.data_out.OutRead.{OutRead}
-use Rattle.ssp_frame.specs.declared.data_out.OutRead.TheVariants.{Frame as Out, Refused as NotOut}
 use Rattle.ssp_frame.specs.Response.{response_left, response_of, read_response, write_causes as response_write_causes}
 use Rattle.ssp_frame.specs.declared.response.ResponseHead.{ResponseHead}
-use Rattle.ssp_frame.specs.declared.response.ResponseFrame.{ResponseFrame}
-use Rattle.ssp_frame.specs.declared.response.ResponseRead.{ResponseRead}
-use Rattle.ssp_frame.specs.declared.response.ResponseRead.TheVariants.{Frame as Response, Refused as NotResponse}
 use Rattle.sonerwal.specs.Face.{Read, Write, Given, DataGiven, OpenReads, OpenWrites, DataReads, DataWrites, XferReads, XferWrites, OutReads, OutWrites, ResponseReads, ResponseWrites}
 use Rattle.claims.specs.Causes.{Answers, ReadsOpen, WritesOpen, ReadsData, WritesData, ReadsXfer, WritesXfer, ReadsOut, WritesOut, ReadsResponse, WritesResponse}
 use Rattle.claims.proofs.Calls.{ReadOpen, WriteOpen, ReadData, WriteData, FaceOpenRead, FaceOpenWrite, FaceDataRead, FaceDataWrite}
@@ -58,80 +47,44 @@ module _ {A : Type 0} (refused : Refusal → A) (done : A) (one : (j k : Refusal
         keeps = λ k h. pa ∙ stays refused done one apart (buffer_causes s t) new before k (sym px ∙ h);
       }
 
-one_open : (j k : Refusal) → NotOpen j ≡ NotOpen k → j ≡ k
-one_open j k e = cc
-
-open_apart : (f : OpenFrame) (k : Refusal) → Open f ≡ NotOpen k → ⊥
-open_apart f k e = let z : ◌≡◌ {A = ℕ} 0 1 = cc in omega arith
-
-one_data : (j k : Refusal) → NotData j ≡ NotData k → j ≡ k
-one_data j k e = cc
-
-data_apart : (f : DataFrame) (k : Refusal) → Data f ≡ NotData k → ⊥
-data_apart f k e = let z : ◌≡◌ {A = ℕ} 0 1 = cc in omega arith
-
-one_xfer : (j k : Refusal) → NotXfer j ≡ NotXfer k → j ≡ k
-one_xfer j k e = cc
-
-xfer_apart : (h : XferHead) (k : Refusal) → Xfer h ≡ NotXfer k → ⊥
-xfer_apart h k e = let z : ◌≡◌ {A = ℕ} 0 1 = cc in omega arith
-
-one_out : (j k : Refusal) → NotOut j ≡ NotOut k → j ≡ k
-one_out j k e = cc
-
-out_apart : (f : OutFrame) (k : Refusal) → Out f ≡ NotOut k → ⊥
-out_apart f k e = let z : ◌≡◌ {A = ℕ} 0 1 = cc in omega arith
-
-one_response : (j k : Refusal) → NotResponse j ≡ NotResponse k → j ≡ k
-one_response j k e = cc
-
-response_apart : (f : ResponseFrame) (k : Refusal) → Response f ≡ NotResponse k → ⊥
-response_apart f k e = let z : ◌≡◌ {A = ℕ} 0 1 = cc in omega arith
-
-one_written : (j k : Refusal) → NotWritten j ≡ NotWritten k → j ≡ k
-one_written j k e = cc
-
-done_apart : (k : Refusal) → Done ≡ NotWritten k → ⊥
-done_apart k e = let z : ◌≡◌ {A = ℕ} 0 1 = cc in omega arith
-
 -- the readers' answers, by their definitions; they change nothing
-open_answers : (c : Read OpenRead (Unit {0})) → c.answer ≡ read_open c.frame → ReadsOpen NotOpen (Open (frame_of c.frame)) c
+open_answers : (c : Read (Result OpenFrame Refusal) (Unit {0})) → c.answer ≡ read_open c.frame → ReadsOpen Err (Ok (frame_of c.frame)) c
 unfolding read_open
-open_answers c p small = let s = c.frame in answers NotOpen (Open (frame_of s)) one_open (open_apart (frame_of s)) (open_length s) (open_bytes_lem s small) tt tt p refl
+open_answers c p small = let s = c.frame in answers Err (Ok (frame_of s)) one (apart (frame_of s)) (open_length s) (open_bytes_lem s small) tt tt p refl
 
-data_answers : (c : Read DataRead (Unit {0})) → c.answer ≡ read_data c.frame → ReadsData NotData (Data (data_of c.frame)) c
+data_answers : (c : Read (Result (Frame DataHead) Refusal) (Unit {0})) → c.answer ≡ read_data c.frame → ReadsData Err (Ok (data_of c.frame)) c
 unfolding read_data
-data_answers c p small = let s = c.frame in answers NotData (Data (data_of s)) one_data (data_apart (data_of s)) (data_length (length s)) (data_bytes s small) tt tt p refl
+data_answers c p small = let s = c.frame in answers Err (Ok (data_of s)) one (apart (data_of s)) (data_length (length s)) (data_bytes s small) tt tt p refl
 
-xfer_answers : (c : Read XferRead (Unit {0})) → c.answer ≡ read_xfer_rdy c.frame → ReadsXfer NotXfer (Xfer (xfer_of c.frame)) c
+xfer_answers : (c : Read (Result XferHead Refusal) (Unit {0})) → c.answer ≡ read_xfer_rdy c.frame → ReadsXfer Err (Ok (xfer_of c.frame)) c
 unfolding read_xfer_rdy
-xfer_answers c p small = let s = c.frame in answers NotXfer (Xfer (xfer_of s)) one_xfer (xfer_apart (xfer_of s)) (equal (length s) 36) (xfer_bytes s) tt tt p refl
+xfer_answers c p small = let s = c.frame in answers Err (Ok (xfer_of s)) one (apart (xfer_of s)) (equal (length s) 36) (xfer_bytes s) tt tt p refl
 
-out_answers : (c : Read OutRead (Unit {0})) → c.answer ≡ read_data_out c.frame → ReadsOut NotOut (Out (out_of c.frame)) c
+out_answers : (c : Read (Result (Frame OutHead) Refusal) (Unit {0})) → c.answer ≡ read_data_out c.frame → ReadsOut Err (Ok (out_of c.frame)) c
 unfolding read_data_out
-out_answers c p small = let s = c.frame in answers NotOut (Out (out_of s)) one_out (out_apart (out_of s)) (data_length (length s)) (out_bytes s) tt tt p refl
+out_answers c p small = let s = c.frame in answers Err (Ok (out_of s)) one (apart (out_of s)) (data_length (length s)) (out_bytes s) tt tt p refl
 
-response_answers : (c : Read ResponseRead (Unit {0})) → c.answer ≡ read_response c.frame → ReadsResponse NotResponse (Response (response_of c.frame)) c
+response_answers : (c : Read (Result (Frame ResponseHead) Refusal) (Unit {0})) → c.answer ≡ read_response c.frame → ReadsResponse Err (Ok (response_of c.frame)) c
 unfolding read_response
-response_answers c p small = let s = c.frame in answers NotResponse (Response (response_of s)) one_response (response_apart (response_of s)) (response_length (length s)) (response_bytes s small) tt tt p refl
+response_answers c p small = let s = c.frame in answers Err (Ok (response_of s)) one (apart (response_of s)) (response_length (length s)) (response_bytes s small) tt tt p refl
 
 -- the writers' answers and bytes, by what they promise
-open_writes : (c : Write Written OpenFrame) → Wrote (open_write_causes c.given c.lent) (open_bytes c.given) c.lent c.answer c.left → WritesOpen NotWritten Done c
-open_writes c p = answers NotWritten Done one_written done_apart (open_length c.lent) (open_fields c.given.head) (open_bytes c.given) c.lent p.answer p.bytes
+open_writes : (c : Write (Result (Unit {0}) Refusal) OpenFrame) → Wrote (open_write_causes c.given c.lent) (open_bytes c.given) c.lent c.answer c.left → WritesOpen Err (Ok tt) c
+open_writes c p = answers Err (Ok tt) one (apart tt) (open_length c.lent) (open_fields c.given.head) (open_bytes c.given) c.lent p.answer p.bytes
 
-data_writes : (c : Write Written DataGiven) → let g = c.given in Wrote (data_write_causes g.head g.body c.lent) (data_left g.head g.body c.lent) c.lent c.answer c.left → WritesData NotWritten Done c
-data_writes c p = let g = c.given in answers NotWritten Done one_written done_apart (data_lengths (length g.body) (length c.lent)) (data_fields g.head) (data_left g.head g.body c.lent) c.lent p.answer p.bytes
+data_writes : (c : Write (Result (Unit {0}) Refusal) DataGiven) → let g = c.given in Wrote (data_write_causes g.head g.body c.lent) (data_left g.head g.body c.lent) c.lent c.answer c.left → WritesData Err (Ok tt) c
+data_writes c p = let g = c.given in answers Err (Ok tt) one (apart tt) (data_lengths (length g.body) (length c.lent)) (data_fields g.head) (data_left g.head g.body c.lent) c.lent p.answer p.bytes
 
-xfer_writes : (c : Write Written XferHead) → Wrote (xfer_write_causes c.given c.lent) (xfer_left c.given c.lent) c.lent c.answer c.left → WritesXfer NotWritten Done c
-xfer_writes c p = answers NotWritten Done one_written done_apart (most 36 (length c.lent)) (xfer_fields c.given) (xfer_left c.given c.lent) c.lent p.answer p.bytes
+xfer_writes : (c : Write (Result (Unit {0}) Refusal) XferHead) → Wrote (xfer_write_causes c.given c.lent) (xfer_left c.given c.lent) c.lent c.answer c.left → WritesXfer Err (Ok tt) c
+xfer_writes c p = answers Err (Ok tt) one (apart tt) (most 36 (length c.lent)) (xfer_fields c.given) (xfer_left c.given c.lent) c.lent p.answer p.bytes
 
-out_writes : (c : Write Written (Given OutHead)) → let g = c.given in Wrote (out_write_causes g.head g.body c.lent) (out_left g.head g.body c.lent) c.lent c.answer c.left → WritesOut NotWritten Done c
-out_writes c p = let g = c.given in answers NotWritten Done one_written done_apart (data_lengths (length g.body) (length c.lent)) (out_fields g.head) (out_left g.head g.body c.lent) c.lent p.answer p.bytes
+out_writes : (c : Write (Result (Unit {0}) Refusal) (Given OutHead)) → let g = c.given in Wrote (out_write_causes g.head g.body c.lent) (out_left g.head g.body c.lent) c.lent c.answer c.left → WritesOut Err (Ok tt) c
+out_writes c p = let g = c.given in answers Err (Ok tt) one (apart tt) (data_lengths (length g.body) (length c.lent)) (out_fields g.head) (out_left g.head g.body c.lent) c.lent p.answer p.bytes
 
-response_writes : (c : Write Written (Given ResponseHead)) → let g = c.given in Wrote (response_write_causes g.head g.body c.lent) (response_left g.head g.body c.lent) c.lent c.answer c.left → WritesResponse NotWritten Done c
+response_writes : (c : Write (Result (Unit {0}) Refusal) (Given ResponseHead)) → let g = c.given in Wrote (response_write_causes g.head g.body c.lent) (response_left g.head g.body c.lent) c.lent c.answer c.left → WritesResponse Err (Ok tt) c
 response_writes c p =
     let g = c.given in
-    answers NotWritten Done one_written done_apart (response_lengths g.head.present (length g.body) (length c.lent)) (response_fields g.head) (response_left g.head g.body c.lent) c.lent p.answer p.bytes
+    answers Err (Ok tt) one (apart tt) (response_lengths g.head.present (length g.body) (length c.lent)) (response_fields g.head) (response_left g.head g.body c.lent) c.lent p.answer p.bytes
 
 -- what C sees of each, as numbers
 c_open_reads : (c : Read ℕ OpenFrame) → OpenReads c → ReadsOpen number_of 0 c
@@ -140,7 +93,7 @@ c_open_reads c p small = answers number_of 0 one_number not_zero (open_length c.
 c_open_writes : (c : Write ℕ OpenFrame) → OpenWrites c → WritesOpen number_of 0 c
 c_open_writes c p = answers number_of 0 one_number not_zero (open_length c.lent) (open_fields c.given.head) (open_bytes c.given) c.lent p.answer p.leaves
 
-c_data_reads : (c : Read ℕ DataFrame) → DataReads c → ReadsData number_of 0 c
+c_data_reads : (c : Read ℕ (Frame DataHead)) → DataReads c → ReadsData number_of 0 c
 c_data_reads c p small = answers number_of 0 one_number not_zero (data_length (length c.frame)) (data_bytes c.frame small) (data_of c.frame) c.lent p.answer p.leaves
 
 c_data_writes : (c : Write ℕ DataGiven) → DataWrites c → WritesData number_of 0 c
@@ -152,13 +105,13 @@ c_xfer_reads c p small = answers number_of 0 one_number not_zero (equal (length 
 c_xfer_writes : (c : Write ℕ XferHead) → XferWrites c → WritesXfer number_of 0 c
 c_xfer_writes c p = answers number_of 0 one_number not_zero (most 36 (length c.lent)) (xfer_fields c.given) (xfer_left c.given c.lent) c.lent p.answer p.leaves
 
-c_out_reads : (c : Read ℕ OutFrame) → OutReads c → ReadsOut number_of 0 c
+c_out_reads : (c : Read ℕ (Frame OutHead)) → OutReads c → ReadsOut number_of 0 c
 c_out_reads c p small = answers number_of 0 one_number not_zero (data_length (length c.frame)) (out_bytes c.frame) (out_of c.frame) c.lent p.answer p.leaves
 
 c_out_writes : (c : Write ℕ (Given OutHead)) → OutWrites c → WritesOut number_of 0 c
 c_out_writes c p = let g = c.given in answers number_of 0 one_number not_zero (data_lengths (length g.body) (length c.lent)) (out_fields g.head) (out_left g.head g.body c.lent) c.lent p.answer p.leaves
 
-c_response_reads : (c : Read ℕ ResponseFrame) → ResponseReads c → ReadsResponse number_of 0 c
+c_response_reads : (c : Read ℕ (Frame ResponseHead)) → ResponseReads c → ReadsResponse number_of 0 c
 c_response_reads c p small = answers number_of 0 one_number not_zero (response_length (length c.frame)) (response_bytes c.frame small) (response_of c.frame) c.lent p.answer p.leaves
 
 c_response_writes : (c : Write ℕ (Given ResponseHead)) → ResponseWrites c → WritesResponse number_of 0 c
@@ -169,16 +122,16 @@ c_response_writes c p =
 -- 01 REFUSAL.11 01 REFUSAL.12
 pub record Refusals : Type 1 where
   -- what reads and writes frames answers and leaves: 1 for a wrong length, 2 for a field that is not listed, and else that it is done
-  pub read_open_lem : (c : ReadOpen) → ReadsOpen NotOpen (Open (frame_of (open_read c).frame)) (open_read c)
-  pub write_open : (c : WriteOpen) → WritesOpen NotWritten Done (open_write c)
-  pub read_data_lem : (c : ReadData) → ReadsData NotData (Data (data_of (data_read c).frame)) (data_read c)
-  pub write_data : (c : WriteData) → WritesData NotWritten Done (data_write c)
-  pub read_xfer_rdy_lem : (c : ReadXfer) → ReadsXfer NotXfer (Xfer (xfer_of (xfer_read c).frame)) (xfer_read c)
-  pub write_xfer_rdy : (c : WriteXfer) → WritesXfer NotWritten Done (xfer_write c)
-  pub read_data_out_lem : (c : ReadOut) → ReadsOut NotOut (Out (out_of (out_read c).frame)) (out_read c)
-  pub write_data_out : (c : WriteOut) → WritesOut NotWritten Done (out_write c)
-  pub read_response_lem : (c : ReadResponse) → ReadsResponse NotResponse (Response (response_of (response_read c).frame)) (response_read c)
-  pub write_response : (c : WriteResponse) → WritesResponse NotWritten Done (response_write c)
+  pub read_open_lem : (c : ReadOpen) → ReadsOpen Err (Ok (frame_of (open_read c).frame)) (open_read c)
+  pub write_open : (c : WriteOpen) → WritesOpen Err (Ok tt) (open_write c)
+  pub read_data_lem : (c : ReadData) → ReadsData Err (Ok (data_of (data_read c).frame)) (data_read c)
+  pub write_data : (c : WriteData) → WritesData Err (Ok tt) (data_write c)
+  pub read_xfer_rdy_lem : (c : ReadXfer) → ReadsXfer Err (Ok (xfer_of (xfer_read c).frame)) (xfer_read c)
+  pub write_xfer_rdy : (c : WriteXfer) → WritesXfer Err (Ok tt) (xfer_write c)
+  pub read_data_out_lem : (c : ReadOut) → ReadsOut Err (Ok (out_of (out_read c).frame)) (out_read c)
+  pub write_data_out : (c : WriteOut) → WritesOut Err (Ok tt) (out_write c)
+  pub read_response_lem : (c : ReadResponse) → ReadsResponse Err (Ok (response_of (response_read c).frame)) (response_read c)
+  pub write_response : (c : WriteResponse) → WritesResponse Err (Ok tt) (response_write c)
   -- the same of C's calls, which answer the refusal's number, or 0
   pub sonerwal_open_read : (c : FaceOpenRead) → ReadsOpen number_of 0 (c_open_read c)
   pub sonerwal_open_write : (c : FaceOpenWrite) → WritesOpen number_of 0 (c_open_write c)

@@ -1,5 +1,6 @@
 -- Request c), the reply, sentence by sentence, over any calls from the state before START, refused ones and later STARTs among them, with bytes and
 -- without. The history is read from the calls, and of a RESPONSE that was written from its bytes. Assumes nothing.
+use Rattle.std.specs.Prelude.{Ok}
 use Prim.Native.Nat.{ℕ, ◌+◌, ◌≤◌}
 use mathlib.Core.Bool.{true, false}
 use mathlib.Core.List.{List, [], ◌∷◌, ◌++◌}
@@ -51,7 +52,7 @@ next r = step_of r.last (now r)
 -- 02 c.3
 pub record Replies : Type 0 where
   -- delivered is answered only if the latest RESPONSE's ACK was reported, and a reply is done only then;
-  pub delivered : (r : Run) → (next r).answer ≡ Answer.Done → Latest good (view (added r ++ past r))
+  pub delivered : (r : Run) → (next r).answer ≡ Ok Answer.Done → Latest good (view (added r ++ past r))
   pub sure : (r : Run) → (now r).phase ≡ Phase.Done → Latest good (went r)
   -- a RESPONSE's retransmit bit, as its reader finds it, is one exactly if the RESPONSE before it since START failed, else zero;
   pub retransmit : (r : Run) (f : Response) → added r ≡ sent f ∷ [] → f.retransmit ≡ flag (last_failed (went r))
@@ -71,7 +72,7 @@ pub record Replies : Type 0 where
   pub asked : (r : Run) → (now r).resends ≡ allowed (past r)
   pub used : (r : Run) → unfinished (now r).phase ≡ true → ((now r).used ≡ failures (went r)) × (failures (went r) ≤ allowed (past r))
   -- failed is answered exactly at failure R+1;
-  pub fails : (r : Run) → ((next r).answer ≡ Answer.Fail) ↔ ((failures (went r) ≡ allowed (past r)) × (failures (view (added r ++ past r)) ≡ allowed (past r) + 1))
+  pub fails : (r : Run) → ((next r).answer ≡ Ok Answer.Fail) ↔ ((failures (went r) ≡ allowed (past r)) × (failures (view (added r ++ past r)) ≡ allowed (past r) + 1))
   -- the reply is unfinished exactly if the history says so, every call that is taken answers the history's word, and every other the history's refusal;
   pub lives : (r : Run) → unfinished (now r).phase ≡ underway (past r)
   pub word : (r : Run) (e : Entry) → added r ≡ e ∷ [] → (next r).answer ≡ word_by (past r) e

@@ -44,7 +44,7 @@ use Rattle.sonerwal.proofs.replies.sonerwal_reply_cancel.Reads as face-cancel-re
 use Rattle.sonerwal.proofs.replies.sonerwal_reply_respond.Kinds as face-respond-of
 use Rattle.sonerwal.proofs.replies.sonerwal_reply_respond.Reads as face-respond-reads
 use Rattle.claims.proofs.Calls.{Outcome}
-use Rattle.claims.proofs.Named.{first3, behind3}
+use Rattle.claims.proofs.Named.{first3, behind3, of_command}
 
 -- ---- the calls from Rattle
 
@@ -122,19 +122,19 @@ behind5 x = (behind3 x).1.1
 
 -- the five numbers of a call that writes a RESPONSE, its data, and the output as it was lent and as it is left
 abbrev pub numbers : Write → List ℕ
-numbers c = first5 c.args.1
+numbers c = of_command c.args.1.0 ++ (c.args.1.1.0 ∷ c.args.1.1.1.0 ∷ [])
 
 abbrev pub head : Write → ResponseHead
 head c = let ns = numbers c in response_head c.args.0 (get_or ns 0 0) (get_or ns 1 0) (get_or ns 2 0) (get_or ns 3 0) (get_or ns 4 0)
 
 abbrev pub body : Write → List ℕ
-body c = (behind5 c.args.1).0.now
+body c = c.args.1.1.1.1.0.now
 
 abbrev pub lent : Write → List ℕ
-lent c = (behind5 c.args.1).1.0.now
+lent c = c.args.1.1.1.1.1.0.now
 
 abbrev pub left : Write → List ℕ
-left c = (behind5 c.exit.1).1.0.now
+left c = c.exit.1.1.1.1.1.0.now
 
 abbrev pub writing_call : Write → writing.Call
 writing_call c = let ns = numbers c in writing.Call.respond (get_or ns 0 0) (get_or ns 1 0) (get_or ns 2 0) (get_or ns 3 0) (get_or ns 4 0) (body c) (lent c)

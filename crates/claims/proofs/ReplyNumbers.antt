@@ -1,4 +1,6 @@
 -- The numbers by which C sees a reply: each table is read backwards by its own list, as crate reply_lent shows. Assumes nothing.
+use Rattle.refusals.specs.declared.Refusal.{Refusal}
+use Rattle.std.specs.Prelude.{Result}
 use Prim.Native.Nat.{ℕ, ◌<◌}
 use mathlib.Core.Bool.{true}
 use mathlib.Core.List.{[], ◌∷◌, map}
@@ -21,7 +23,7 @@ pub record ReplyNumbers : Type 0 where
   -- a number names a phase exactly if it is that one's own
   pub phases : Named (λ (n : ℕ) (p : Phase). (n < 6) × (phase_of n ≡ p)) phase_number
   -- no two answers share a number
-  pub answers : (a b : Answer) → answer_number a ≡ answer_number b → a ≡ b
+  pub answers : (a b : Result Answer Refusal) → answer_number a ≡ answer_number b → a ≡ b
   -- a reply shown is formed, and is read back as it was; formed numbers are shown as they were
   pub forms : (t : Reply) → formed (shown t) ≡ true
   pub reads : (t : Reply) → state_of (shown t) ≡ t

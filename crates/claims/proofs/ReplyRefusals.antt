@@ -1,5 +1,6 @@
 -- A call on a reply answers refusal k exactly if k is the first of its grounds that holds, and then leaves the state and every lent byte: each of its tests
 -- decides one ground. Assumes nothing.
+use Rattle.std.specs.Prelude.{Err, Ok}
 use Prim.Native.Nat.{ℕ}
 use mathlib.Core.Bool.{true}
 use mathlib.Core.List.{List}
@@ -33,10 +34,10 @@ respond_grounds s h body out = grounds.respond_grounds (ResponseLengths h.presen
 
 -- what a call that writes a RESPONSE answers, the state in its answer, and the output after it
 pub record Refuses (s : Reply) (h : ResponseHead) (body before : List ℕ) (r : Stepped) (after : List ℕ) : Type 1 where
-  pub exactly : (k : Refusal) → (r.answer ≡ Answer.Refused k) ↔ First (respond_grounds s h body before) k
-  pub keeps : (k : Refusal) → r.answer ≡ Answer.Refused k → (r.state ≡ s) × (after ≡ before)
+  pub exactly : (k : Refusal) → (r.answer ≡ Err k) ↔ First (respond_grounds s h body before) k
+  pub keeps : (k : Refusal) → r.answer ≡ Err k → (r.state ≡ s) × (after ≡ before)
 
-sent_apart : (k : Refusal) → Answer.Sent ≡ Answer.Refused k → ⊥
+sent_apart : (k : Refusal) → (Ok Answer.Sent) ≡ Err k → ⊥
 sent_apart k e = let z : ◌≡◌ {A = ℕ} 0 1 = cc in omega arith
 
 module _ (s : Reply) (h : ResponseHead) (body out : List ℕ) where
@@ -48,22 +49,22 @@ module _ (s : Reply) (h : ResponseHead) (body out : List ℕ) where
   unfolding respond_step respond_bytes
   respond_refused {r} {after} p =
       let all = respond_causes s h body out in
-      let answer : r.answer ≡ refuse Answer.Refused all Answer.Sent =
+      let answer : r.answer ≡ refuse Err all (Ok Answer.Sent) =
       ap (λ (st : Stepped). st.answer) p.step ∙ through (λ (st : Stepped). st.answer) (refused s) all (responded s) in
       let state : r.state ≡ refuse (λ _. s) all (responded s).state =
       ap (λ (st : Stepped). st.state) p.step ∙ through (λ (st : Stepped). st.state) (refused s) all (responded s) in
       record {
-        exactly = λ k. (λ e. only Answer.Refused Answer.Sent one sent_apart respond_decides k (sym answer ∙ e), λ f. answer ∙ if_first Answer.Refused Answer.Sent one sent_apart respond_decides k f);
+        exactly = λ k. (λ e. only Err (Ok Answer.Sent) one sent_apart respond_decides k (sym answer ∙ e), λ f. answer ∙ if_first Err (Ok Answer.Sent) one sent_apart respond_decides k f);
         keeps = λ k e. (
-          state ∙ stays Answer.Refused Answer.Sent one sent_apart all (responded s).state s k (sym answer ∙ e),
-          p.bytes ∙ stays Answer.Refused Answer.Sent one sent_apart all (response_left h body out) out k (sym answer ∙ e),
+          state ∙ stays Err (Ok Answer.Sent) one sent_apart all (responded s).state s k (sym answer ∙ e),
+          p.bytes ∙ stays Err (Ok Answer.Sent) one sent_apart all (response_left h body out) out k (sym answer ∙ e),
         );
       }
 
 -- 02 c.3
 pub record ReplyRefusals : Type 1 where
   -- START to CANCEL: ReplySteps shows that these are the methods' answers
-  pub exactly : (s : Reply) (c : Call) (k : Refusal) → ((step_of c s).answer ≡ Answer.Refused k) ↔ First (grounds_of c s) k
+  pub exactly : (s : Reply) (c : Call) (k : Refusal) → ((step_of c s).answer ≡ Err k) ↔ First (grounds_of c s) k
   pub keeps : (s : Reply) (c : Call) → is_refused (step_of c s).answer ≡ true → (step_of c s).state ≡ s
   -- and the call that writes its RESPONSE
   pub writes : (c : Write) → Refuses c.args.0 (head c) (body c) (lent c) c.answer (left c)

@@ -1,5 +1,6 @@
 -- Demand 2, the expander link, sentence by sentence: what a call does is what document 01 says of its event in its state, with every part of the
 -- new memory and every action typed out from document 01, and so do events behind each other. Assumes nothing.
+use Rattle.std.specs.Prelude.{Ok}
 use Prim.Native.Nat.{ℕ}
 use mathlib.Core.Bool.{true}
 use mathlib.Core.Path.{◌≡◌}
@@ -7,7 +8,6 @@ use Rattle.open_frame.specs.declared.OpenFrame.{OpenFrame}
 use Rattle.xl_parts.specs.declared.Event.{Event}
 use Rattle.xl_parts.specs.declared.Memory.{Memory}
 use Rattle.xl_parts.specs.declared.State.{State}
-use Rattle.xl_parts.specs.declared.Answer.{Answer}
 use Rattle.xl_rows.specs.Table.{takes}
 use Rattle.xl_rows.specs.Sentences.{Sentences}
 use Rattle.xl_rows.specs.Chains.{Chains}
@@ -24,7 +24,7 @@ use Rattle.xl_calls.proofs.Statuses.{statuses}
 -- 01 XL.1
 pub record Rows : Type 0 where
   -- a step that is done leaves the state and the actions that `takes` says, in order
-  pub steps : (f : OpenFrame) (e : Event) (s : State) → (step_of f e s).answer ≡ Answer.Done → step_of f e s ≡ answers (takes f e s).state (takes f e s).actions
+  pub steps : (f : OpenFrame) (e : Event) (s : State) → (step_of f e s).answer ≡ Ok tt → step_of f e s ≡ answers (takes f e s).state (takes f e s).actions
   -- and `takes` does what each sentence of document 01 says, whatever is remembered
   pub each : (f : OpenFrame) (m : Memory) (n : ℕ) → Sentences takes f m n
   pub chained : (f g : OpenFrame) (m : Memory) (n : ℕ) → Chains takes f g m n

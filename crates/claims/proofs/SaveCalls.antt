@@ -1,9 +1,9 @@
 -- The calls that save and restore a transfer, as the claims see them, and what they were given, lent and left; C's stand in a part of their own. Assumes nothing.
+use Rattle.std.specs.Prelude.{Ok, Result}
 use Prim.Native.Nat.{ℕ}
 use mathlib.Core.List.{List}
 use mathlib.Core.Path.{◌≡◌}
 use lib.ListN.{take}
-use Rattle.refusals.specs.declared.Checked.{Checked}
 use Rattle.transfer.specs.declared.Transfer.{Transfer}
 use Rattle.transfer_lent.specs.declared.State.{State}
 use Rattle.saved.proofs.save.Kinds as save-of
@@ -38,7 +38,7 @@ abbrev pub line : Restore → List ℕ
 line c = c.args.0.now
 
 abbrev pub savers : Savers Transfer Save Restore
-savers = record { given = given; Passed = λ c. c.answer.answer ≡ Checked.Passed; wrote = λ c. take c.answer.length (left c); line = line; gave = λ c. c.answer.state }
+savers = record { given = given; Passed = λ c. c.answer.answer ≡ Ok tt; wrote = λ c. take c.answer.length (left c); line = line; gave = λ c. c.answer.state }
 
 -- ---- from C
 

@@ -1,5 +1,6 @@
 -- Request a), sentence by sentence: a line has each number and the phase in a field of its own, so what is saved is read back as it was, and the test of a
 -- lent state takes exactly the numbers that some history leaves; so calls with swaps between them are the calls alone. Assumes nothing.
+use Rattle.std.specs.Prelude.{Err, Ok, Result}
 use Prim.Native.Nat.{ℕ, ◌≤◌}
 use mathlib.Core.Bool.{Bool, true, false}
 use mathlib.Core.List.{List, [], ◌∷◌, ◌++◌, map}
@@ -9,7 +10,6 @@ use native.Mathlib.Omega.{arith}
 use lib.ListN.{length, take, drop, replicate}
 use Rattle.laws.proofs.Bools.{and_left}
 use Rattle.refusals.specs.Causes.{First, end, past}
-use Rattle.refusals.specs.declared.Checked.{Checked}
 use Rattle.refusals.specs.declared.Refusal.{Refusal}
 use Rattle.transfer.specs.Rules.{unstarted}
 use Rattle.transfer.specs.Steps.{limit}
@@ -58,23 +58,23 @@ pub record Saves : Type 1 where
       × (map (line_of 1) (leaves limit listed unstarted) ≡ typed_listing)
       × (map (λ cs. line_of 1 (plainly.run limit cs unstarted)) lossy_calls ≡ typed_lossy)
   -- with room for 69 bytes every transfer that some history leaves, or the state before START, is saved: no line is longer
-  pub saved : (c : Save) → plainly.Reachable limit (given c) → 69 ≤ length (lent c) → c.answer.answer ≡ Checked.Passed
+  pub saved : (c : Save) → plainly.Reachable limit (given c) → 69 ≤ length (lent c) → c.answer.answer ≡ Ok tt
   pub room : (s : Transfer) → plainly.Reachable limit s → length (line_of 1 s) ≤ 69
   -- and then its line stands at the front of the output, its length is answered, and the bytes behind it stay
-  pub written : (c : Save) → c.answer.answer ≡ Checked.Passed → let l = line_of 1 (given c) in (left c ≡ l ++ drop (length l) (lent c)) × (c.answer.length ≡ length l)
+  pub written : (c : Save) → c.answer.answer ≡ Ok tt → let l = line_of 1 (given c) in (left c ≡ l ++ drop (length l) (lent c)) × (c.answer.length ≡ length l)
   -- what was written is read back
-  pub swap : (c : Save) (r : Restore) → c.answer.answer ≡ Checked.Passed → line r ≡ take c.answer.length (left c) → r.answer ≡ restored (given c)
+  pub swap : (c : Save) (r : Restore) → c.answer.answer ≡ Ok tt → line r ≡ take c.answer.length (left c) → r.answer ≡ restored (given c)
   -- the line of every such transfer says that transfer
   pub back : (r : Restore) (s : Transfer) → plainly.Reachable limit s → line r ≡ line_of 1 s → r.answer ≡ restored s
   -- the line of what was taken is the line, byte for byte
-  pub again : (r : Restore) → r.answer.answer ≡ Checked.Passed → line_of 1 r.answer.state ≡ line r
+  pub again : (r : Restore) → r.answer.answer ≡ Ok tt → line_of 1 r.answer.state ≡ line r
   -- two records with one line are one record
   pub unlike : (s t : Transfer) → line_of 1 s ≡ line_of 1 t → s ≡ t
   -- no front of a line that is taken is taken, so that a line which was cut is never another transfer
-  pub whole : (r cut : Restore) (x : ℕ) (rest : List ℕ) → line r ≡ line cut ++ (x ∷ rest) → r.answer.answer ≡ Checked.Passed → cut.answer.answer ≡ Checked.Passed → ⊥
+  pub whole : (r cut : Restore) (x : ℕ) (rest : List ℕ) → line r ≡ line cut ++ (x ∷ rest) → r.answer.answer ≡ Ok tt → cut.answer.answer ≡ Ok tt → ⊥
   -- 02 a.3
   -- a line is taken exactly if it is the line of such a transfer, of at most 64 frames unanswered
-  pub exact : (r : Restore) → (r.answer.answer ≡ Checked.Passed) ↔ LeftLine 64 1 (line r)
+  pub exact : (r : Restore) → (r.answer.answer ≡ Ok tt) ↔ LeftLine 64 1 (line r)
   -- behind a swap any calls leave the states and give the answers and the bytes that they do without it
   pub goes_on : (s t : Transfer) → Swap savers s t → (cs : List Call) → seen cs t ≡ seen cs s
   -- 02 a.1
@@ -87,32 +87,32 @@ pub record Saves : Type 1 where
   pub demand : (ts : List (Turn Call)) (s : Transfer) (h : List (EntryOf Sent)) → Leads swapping ts unstarted [] s h →
       AllTyped (calls_in ts) → (c : Call) → Typed c → Demanded c s h
   -- and of a line from nowhere: whatever calls leave a transfer with this line, of their history followed by that of any calls behind the restore
-  pub nowhere : (r : Restore) → r.answer.answer ≡ Checked.Passed → (cs : List Call) → AllTyped cs → line r ≡ line_of 1 (run limit cs unstarted) →
+  pub nowhere : (r : Restore) → r.answer.answer ≡ Ok tt → (cs : List Call) → AllTyped cs → line r ≡ line_of 1 (run limit cs unstarted) →
       (ds : List Call) → AllTyped ds → (c : Call) → Typed c →
       Demanded c (run limit ds r.answer.state) (history limit ds r.answer.state (history limit cs unstarted []))
   -- 02 a.5
   -- restore is refused with 2 exactly if no history leaves a transfer with this line, and then gives the state before START
-  pub restore_refused : (r : Restore) (k : Refusal) → (r.answer.answer ≡ Checked.Refused k) ↔ First (restore_grounds (line r)) k
-  pub restore_none : (r : Restore) (k : Refusal) → r.answer.answer ≡ Checked.Refused k → r.answer.state ≡ unstarted
+  pub restore_refused : (r : Restore) (k : Refusal) → (r.answer.answer ≡ Err k) ↔ First (restore_grounds (line r)) k
+  pub restore_none : (r : Restore) (k : Refusal) → r.answer.answer ≡ Err k → r.answer.state ≡ unstarted
   -- so are these lines, as they are typed; of them the last four have the form, and no history leaves their numbers
   pub others : map (taken 1) other_lines ≡ replicate 21 false
   pub shapes : map (shaped 1) other_lines ≡ replicate 17 false ++ replicate 4 true
   -- save is refused with 1 exactly if the output is shorter than 69 bytes, else with 3 exactly if no history leaves the transfer, and then leaves every byte
-  pub save_refused : (c : Save) (k : Refusal) → (c.answer.answer ≡ Checked.Refused k) ↔ First (save_grounds (given c) (lent c)) k
-  pub save_kept : (c : Save) (k : Refusal) → c.answer.answer ≡ Checked.Refused k → (left c ≡ lent c) × (c.answer.length ≡ 0)
+  pub save_refused : (c : Save) (k : Refusal) → (c.answer.answer ≡ Err k) ↔ First (save_grounds (given c) (lent c)) k
+  pub save_kept : (c : Save) (k : Refusal) → c.answer.answer ≡ Err k → (left c ≡ lent c) × (c.answer.length ≡ 0)
 
 -- ---- a line that is taken
 
 module _ (c : Restore) where
   -- a check's answer is one of the two
-  passed : c.answer.answer ≡ Checked.Passed → taken 1 (line c) ≡ true
+  passed : c.answer.answer ≡ Ok tt → taken 1 (line c) ≡ true
   passed e = by (taken 1 (line c)) refl
     where
       by : (t : Bool) → taken 1 (line c) ≡ t → t ≡ true
       by true on = refl
       by false off = absurd (calls.passed_apart Refusal.Unlisted (sym e ∙ ap (λ (r : Restored). r.answer) (c.met ∙ calls.restore_other (line c) off)))
 
-  unless_passed : (k : Refusal) → c.answer.answer ≡ Checked.Refused k → c.answer.state ≡ unstarted
+  unless_passed : (k : Refusal) → c.answer.answer ≡ Err k → c.answer.state ≡ unstarted
   unless_passed k e = by (taken 1 (line c)) refl
     where
       by : (t : Bool) → taken 1 (line c) ≡ t → c.answer.state ≡ unstarted
@@ -122,14 +122,14 @@ module _ (c : Restore) where
   says : taken 1 (line c) ≡ true → c.answer ≡ restored (state_of (line c))
   says on = c.met ∙ calls.restore_taken (line c) on
 
-  line_kept : c.answer.answer ≡ Checked.Passed → line_of 1 c.answer.state ≡ line c
+  line_kept : c.answer.answer ≡ Ok tt → line_of 1 c.answer.state ≡ line c
   line_kept e =
       let on = passed e in
       ap (λ (r : Restored). line_of 1 r.state) (says on) ∙ trips.line_again 1 (line c) (and_left (shaped 1 (line c)) _ on)
 
 -- ---- a swap gives the transfer back
 
-read_back : (c : Save) (r : Restore) → c.answer.answer ≡ Checked.Passed → line r ≡ take c.answer.length (left c) → r.answer ≡ restored (given c)
+read_back : (c : Save) (r : Restore) → c.answer.answer ≡ Ok tt → line r ≡ take c.answer.length (left c) → r.answer ≡ restored (given c)
 read_back c r took is = r.met ∙ ap restore_of is ∙ calls.swap_same c.met took
 
 same : (s t : Transfer) → Swap savers s t → t ≡ s
@@ -159,10 +159,10 @@ demanded cs typed c one state old = subst (λ (p : Transfer × List (EntryOf Sen
 pub saves : Saves
 saves = record {
   examples = (typed.new, typed.listing, typed.lossy);
-  saved = λ c reached room. if_good Checked.Refused Checked.Passed calls.one calls.passed_apart (calls.lays c.met) (calls.save_decides (given c) (lent c))
+  saved = λ c reached room. if_good Err (Ok tt) calls.one calls.passed_apart (calls.lays c.met) (calls.save_decides (given c) (lent c))
       (past (λ short. omega arith) (past (λ broken. broken reached) end));
   room = λ s reached. line_short 1 s (omega arith) ((transfer.exact limit (omega arith) s).1 reached);
-  written = λ c. written Checked.Refused Checked.Passed calls.one calls.passed_apart (calls.lays c.met);
+  written = λ c. written Err (Ok tt) calls.one calls.passed_apart (calls.lays c.met);
   swap = read_back;
   back = λ r s reached is. r.met ∙ ap restore_of is ∙ calls.restore_back s ((transfer.exact limit (omega arith) s).1 reached);
   again = line_kept;
@@ -185,6 +185,6 @@ saves = record {
   restore_none = unless_passed;
   others = typed.others;
   shapes = typed.shapes;
-  save_refused = λ c. exactly Checked.Refused Checked.Passed calls.one calls.passed_apart (calls.lays c.met) (calls.save_decides (given c) (lent c));
-  save_kept = λ c. kept Checked.Refused Checked.Passed calls.one calls.passed_apart (calls.lays c.met);
+  save_refused = λ c. exactly Err (Ok tt) calls.one calls.passed_apart (calls.lays c.met) (calls.save_decides (given c) (lent c));
+  save_kept = λ c. kept Err (Ok tt) calls.one calls.passed_apart (calls.lays c.met);
 }

@@ -1,5 +1,6 @@
 -- A call on a transfer answers refusal k exactly if k is the first of document 01's causes that holds, and then leaves the state and
 -- every lent byte: each of its tests decides one cause. Assumes nothing.
+use Rattle.std.specs.Prelude.{Err, Ok}
 use Prim.Native.Nat.{ℕ}
 use mathlib.Core.Bool.{true}
 use mathlib.Core.List.{List, [], ◌∷◌, ◌++◌}
@@ -35,13 +36,13 @@ next_grounds bound s h body out =
     grounds_of bound Call.frame s
     ++ ((Refusal.Unlisted if (DataFields h → ⊥)) ∷ (Refusal.Length if (NextLengths (frame_length s) (length body) (length out) → ⊥)) ∷ [])
 
-sent_apart : (k : Refusal) → Answer.Sent ≡ Answer.Refused k → ⊥
+sent_apart : (k : Refusal) → (Ok Answer.Sent) ≡ Err k → ⊥
 sent_apart k e = let z : ◌≡◌ {A = ℕ} 0 1 = cc in omega arith
 
 -- what a next-frame call on s answers, the state in its answer, and the output after it
 pub record Next (s : Transfer) (c : Write Stepped DataGiven) : Type 1 where
-  pub exactly : (k : Refusal) → (c.answer.answer ≡ Answer.Refused k) ↔ First (next_grounds limit s c.given.head c.given.body c.lent) k
-  pub keeps : (k : Refusal) → c.answer.answer ≡ Answer.Refused k → (c.answer.state ≡ s) × (c.left ≡ c.lent)
+  pub exactly : (k : Refusal) → (c.answer.answer ≡ Err k) ↔ First (next_grounds limit s c.given.head c.given.body c.lent) k
+  pub keeps : (k : Refusal) → c.answer.answer ≡ Err k → (c.answer.state ≡ s) × (c.left ≡ c.lent)
 
 module _ (s : Transfer) (h : DataHead) (body out : List ℕ) where
   next_decides : Decides (next_causes limit s h body out) (next_grounds limit s h body out)
@@ -50,7 +51,7 @@ module _ (s : Transfer) (h : DataHead) (body out : List ℕ) where
       decides_append (decides limit (omega arith) s Call.frame)
       (cons (unless (data_fields h)) (cons (unless (next_lengths (frame_length s) (length body) (length out))) nil))
 
-  answer_is : (next_step limit s h body out).answer ≡ refuse Answer.Refused (next_causes limit s h body out) Answer.Sent
+  answer_is : (next_step limit s h body out).answer ≡ refuse Err (next_causes limit s h body out) (Ok Answer.Sent)
   unfolding next_step
   answer_is = through (λ (st : Stepped). st.answer) (refused s) (next_causes limit s h body out) (framed (frame_length s) s)
 
@@ -64,19 +65,19 @@ module _ (s : Transfer) (h : DataHead) (body out : List ℕ) where
 
   pub next_refused : {r : Stepped} {after : List ℕ} → Went limit s h body out r after → Next s (record { given = record { head = h; body = body }; lent = out; answer = r; left = after })
   next_refused {r} {after} p =
-      let answer : r.answer ≡ refuse Answer.Refused (next_causes limit s h body out) Answer.Sent = ap (λ (st : Stepped). st.answer) p.step ∙ answer_is in
+      let answer : r.answer ≡ refuse Err (next_causes limit s h body out) (Ok Answer.Sent) = ap (λ (st : Stepped). st.answer) p.step ∙ answer_is in
       record {
-        exactly = λ k. (λ e. only Answer.Refused Answer.Sent one sent_apart next_decides k (sym answer ∙ e), λ f. answer ∙ if_first Answer.Refused Answer.Sent one sent_apart next_decides k f);
+        exactly = λ k. (λ e. only Err (Ok Answer.Sent) one sent_apart next_decides k (sym answer ∙ e), λ f. answer ∙ if_first Err (Ok Answer.Sent) one sent_apart next_decides k f);
         keeps = λ k e. (
-          ap (λ (st : Stepped). st.state) p.step ∙ (state_is ∙ stays Answer.Refused Answer.Sent one sent_apart (next_causes limit s h body out) (framed (frame_length s) s).state s k (sym answer ∙ e)),
-          p.bytes ∙ (bytes_are ∙ stays Answer.Refused Answer.Sent one sent_apart (next_causes limit s h body out) (data_left h body out) out k (sym answer ∙ e)),
+          ap (λ (st : Stepped). st.state) p.step ∙ (state_is ∙ stays Err (Ok Answer.Sent) one sent_apart (next_causes limit s h body out) (framed (frame_length s) s).state s k (sym answer ∙ e)),
+          p.bytes ∙ (bytes_are ∙ stays Err (Ok Answer.Sent) one sent_apart (next_causes limit s h body out) (data_left h body out) out k (sym answer ∙ e)),
         );
       }
 
 -- 01 READ.1 01 READ.2 01 REFUSAL.3 01 REFUSAL.6 01 REFUSAL.7 01 REFUSAL.8 01 REFUSAL.10 01 REFUSAL.12 01 REFUSAL.13
 pub record StepRefusals : Type 1 where
   -- START to CANCEL: Steps shows that these are the methods' answers
-  pub exactly : (s : Transfer) (c : Call) (k : Refusal) → ((step_of limit c s).answer ≡ Answer.Refused k) ↔ First (grounds_of limit c s) k
+  pub exactly : (s : Transfer) (c : Call) (k : Refusal) → ((step_of limit c s).answer ≡ Err k) ↔ First (grounds_of limit c s) k
   pub keeps : (s : Transfer) (c : Call) → is_refused (step_of limit c s).answer ≡ true → (step_of limit c s).state ≡ s
   pub next : (c : NextFrame) → Next c.args.0 (next_write c)
 

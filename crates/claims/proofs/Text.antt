@@ -1,6 +1,7 @@
 -- Demand 2, text: what `readrun`'s calls write, whatever the blocks that come in and the buffers that go out, is document 01's output,
 -- since each call takes up what the last one carried over; a line says a command exactly if it is that command written; and a number
 -- is read as it is written. Assumes nothing.
+use Rattle.std.specs.Prelude.{Ok, Some, None, Option}
 use Prim.Native.Nat.{ℕ, suc, ◌+◌, ◌≤◌, ◌<◌}
 use mathlib.Core.Bool.{Bool, cond}
 use mathlib.Core.List.{List, [], ◌++◌, map}
@@ -11,7 +12,6 @@ use lib.ListN.{length, take, drop, replicate, length-drop}
 use lib.Seq.{take-append_seam}
 use Rattle.laws.proofs.Lists.{front_again}
 use Rattle.lines.specs.Numbers.{read_number, decimal}
-use Rattle.lines.specs.declared.Number.TheVariants.{Value}
 use Rattle.lines.proofs.Numbers.{read_written, written_read}
 use Rattle.refusals.specs.declared.Refusal.{Refusal}
 use Rattle.transfer.specs.Steps.{limit, refused}
@@ -24,7 +24,6 @@ use Rattle.runs.specs.Feed.{Carry, next_line, carry_of, run_of, fresh, after, sa
 use Rattle.runs.specs.Output.{output_of}
 use Rattle.runs.specs.Typed.{typed_lines, typed_commands, typed_calls, other_lines, typed_words, typed_answers, typed_row}
 use Rattle.runs.specs.declared.Command.{Command}
-use Rattle.runs.specs.declared.Command.TheVariants.{Bad}
 use Rattle.runs.specs.declared.Run.{Run}
 use Rattle.runs.specs.declared.Fed.{Fed}
 use Rattle.runs.proofs.Commands.{long}
@@ -64,23 +63,23 @@ pub record Text : Type 0 where
   pub stops : (c : Feed) → c.answer.used < length (feed_block c) → length (feed_lent c) < c.answer.wrote + 71
   -- lines are numbered one by one, up to the last number of 64 bits
   pub numbers : (n : ℕ) → n < 18446744073709551615 → next_line n ≡ n + 1
-  pub says : (s : List ℕ) (c : Command) → (c ≡ Bad → ⊥) → read_line s ≡ c → s ≡ written c
-  pub said : (c : Command) → Writable c → read_line (written c) ≡ c
-  pub reads : (c : ReadNumber) (n : ℕ) → digits c ≡ decimal n → n ≤ most c → c.answer ≡ Value n
-  pub writes : (c : ReadNumber) (n : ℕ) → c.answer ≡ Value n → (decimal n ≡ digits c) × (n ≤ most c)
+  pub says : (s : List ℕ) (c : Option Command) → (c ≡ None → ⊥) → read_line s ≡ c → s ≡ written c
+  pub said : (c : Option Command) → Writable c → read_line (written c) ≡ c
+  pub reads : (c : ReadNumber) (n : ℕ) → digits c ≡ decimal n → n ≤ most c → c.answer ≡ Some n
+  pub writes : (c : ReadNumber) (n : ℕ) → c.answer ≡ Some n → (decimal n ≡ digits c) × (n ≤ most c)
   -- 01 TEXT.1
   -- each line, typed, says its command, and the command does what its call does
   pub commands : map read_line typed_lines ≡ typed_commands
-  pub calls : (s : Transfer) → map (λ (c : Command). obeyed c s) typed_commands ≡ map (λ (c : Call). step_of limit c s) typed_calls
+  pub calls : (s : Transfer) → map (λ (c : Option Command). obeyed c s) typed_commands ≡ map (λ (c : Call). step_of limit c s) typed_calls
   -- 01 TEXT.2
   -- each answer has its word, typed, and a row its columns in their order
   pub words : map word_of typed_answers ≡ typed_words
-  pub columns : row_of 7 Answer.Done 11 12 13 14 ≡ typed_row
+  pub columns : row_of 7 (Ok Answer.Done) 11 12 13 14 ≡ typed_row
   -- 01 TEXT.4 01 TEXT.5
   -- other lines, typed, and every line over 255 bytes, are refused with 2
-  pub others : map read_line other_lines ≡ replicate 13 Bad
-  pub long : (s : List ℕ) → 255 < length s → read_line s ≡ Bad
-  pub bad : (s : Transfer) → obeyed Bad s ≡ refused s Refusal.Unlisted
+  pub others : map read_line other_lines ≡ replicate 13 None
+  pub long : (s : List ℕ) → 255 < length s → read_line s ≡ None
+  pub bad : (s : Transfer) → obeyed None s ≡ refused s Refusal.Unlisted
 
 -- what one call does, by its promise
 module _ {run : Run} {block out out' : List ℕ} {r : Fed} (f : Feeds run block out r out') where

@@ -1,5 +1,6 @@
 -- What C sees of each call on a transfer is the transfer's own step, of the transfer that the numbers say; whatever is refused comes back as it was
 -- lent. Assumes nothing.
+use Rattle.std.specs.Prelude.{Err, Ok, Result}
 use Prim.Native.Nat.{ℕ}
 use mathlib.Core.Bool.{Bool, true, false, cond}
 use mathlib.Core.List.{List, ◌∷◌}
@@ -73,19 +74,19 @@ pub record TransferFace : Type 1 where
 -- ---- why a call is refused, and that it leaves what it was lent
 
 -- by the transfer's own step
-step_exactly : (d : machine.Call) (t : Transfer) (k : Refusal) → ((machine.step_of limit d t).answer ≡ Answer.Refused k) ↔ First (grounds_by d t) k
+step_exactly : (d : machine.Call) (t : Transfer) (k : Refusal) → ((machine.step_of limit d t).answer ≡ Err k) ↔ First (grounds_by d t) k
 step_exactly (machine.Call.plain c) t k = refused_exactly limit (omega arith) t c k
 step_exactly (machine.Call.next destination source tag body out) t k = (next_refused t (head_of t destination source tag) body out (record { step = refl; bytes = refl })).exactly k
 
-refusal_of : (a : Answer) → is_refused a ≡ true → (k : Refusal) × (a ≡ Answer.Refused k)
-refusal_of Answer.Ok e = impossible e
-refusal_of Answer.Sent e = impossible e
-refusal_of Answer.Drain e = impossible e
-refusal_of Answer.Retry e = impossible e
-refusal_of Answer.Done e = impossible e
-refusal_of Answer.Fail e = impossible e
-refusal_of Answer.End e = impossible e
-refusal_of (Answer.Refused k) e = (k, refl)
+refusal_of : (a : Result Answer Refusal) → is_refused a ≡ true → (k : Refusal) × (a ≡ Err k)
+refusal_of (Ok Answer.Ok) e = impossible e
+refusal_of (Ok Answer.Sent) e = impossible e
+refusal_of (Ok Answer.Drain) e = impossible e
+refusal_of (Ok Answer.Retry) e = impossible e
+refusal_of (Ok Answer.Done) e = impossible e
+refusal_of (Ok Answer.Fail) e = impossible e
+refusal_of (Ok Answer.End) e = impossible e
+refusal_of (Err k) e = (k, refl)
 
 next_kept : (destination source tag : ℕ) (body out : List ℕ) (t : Transfer) → let h = head_of t destination source tag in
     is_refused (next_step limit t h body out).answer ≡ true → ((next_step limit t h body out).state ≡ t) × (next_bytes limit t h body out ≡ out)
@@ -105,7 +106,7 @@ by_first (later off rest) f g = g off rest
 
 -- as C sees it
 module _ (c : Call) (s : State) where
-  abbrev answer : Answer
+  abbrev answer : Result Answer Refusal
   answer = (machine.step_of limit (call_of c) (state_of s)).answer
 
   face_exactly : (k : Refusal) → ((face_of c s).answer ≡ number_of k) ↔ First (face_grounds c s) k
@@ -117,7 +118,7 @@ module _ (c : Call) (s : State) where
         (λ f. by_first f (λ h same. answer_off c s off ∙ ap number_of same) (λ unless rest. absurd (unless off))),
       )
       by true on = (
-        (λ e. later (λ off. clash (formed s) on off) ((step_exactly (call_of c) (state_of s) k).0 (one_answer answer (Answer.Refused k) (sym (answer_on c s on) ∙ e)))),
+        (λ e. later (λ off. clash (formed s) on off) ((step_exactly (call_of c) (state_of s) k).0 (one_answer answer (Err k) (sym (answer_on c s on) ∙ e)))),
         (λ f. by_first f (λ off same. absurd (clash (formed s) on off)) (λ unless rest. answer_on c s on ∙ ap answer_number ((step_exactly (call_of c) (state_of s) k).1 rest))),
       )
 

@@ -1,4 +1,6 @@
 -- The numbers by which C sees a transfer: each table is read backwards by its own list, as crate transfer_lent shows. Assumes nothing.
+use Rattle.refusals.specs.declared.Refusal.{Refusal}
+use Rattle.std.specs.Prelude.{Result}
 use Prim.Native.Nat.{ℕ, ◌<◌}
 use mathlib.Core.Bool.{Bool, true}
 use mathlib.Core.List.{[], ◌∷◌, map}
@@ -24,7 +26,7 @@ pub record TransferNumbers : Type 0 where
   pub phases : Named (λ (n : ℕ) (p : Phase). (n < 6) × (phase_of n ≡ p)) phase_number
   pub flags : Named (λ (n : ℕ) (t : Bool). (n < 2) × (eqb n 1 ≡ t)) flag
   -- no two answers share a number
-  pub answers : (a b : Answer) → answer_number a ≡ answer_number b → a ≡ b
+  pub answers : (a b : Result Answer Refusal) → answer_number a ≡ answer_number b → a ≡ b
   -- a transfer shown is formed, and is read back as it was; formed numbers are shown as they were
   pub forms : (t : Transfer) → formed (shown t) ≡ true
   pub reads : (t : Transfer) → state_of (shown t) ≡ t

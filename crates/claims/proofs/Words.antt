@@ -1,6 +1,7 @@
 -- What the calls of a transfer answer and leave, a second time: by the history of calls, frames and answers, and not by the transfer's
 -- own count, phase or balance point. Over any calls from the state before START, refused ones and later STARTs among them, plain calls and
 -- next-frame calls mixed. Assumes nothing.
+use Rattle.std.specs.Prelude.{Err, Ok}
 use Prim.Native.Nat.{ℕ, ◌+◌, ◌-◌, ◌≤◌, min}
 use mathlib.Core.Bool.{true, false, not, ◌&&◌, ◌||◌}
 use mathlib.Core.List.{[], ◌∷◌, map}
@@ -50,8 +51,8 @@ pub record Words : Type 0 where
   pub asked : (r : Run) → asked_of (now r) ≡ request r
   -- 01 READ.1
   -- START takes the least and the largest numbers, and is refused with 3 one past each
-  pub takes : map (λ (c : plainly.Call). (plainly.step_of limit c unstarted).answer) in_ranges ≡ replicate 5 Answer.Ok
-  pub takes_no_more : map (λ (c : plainly.Call). (plainly.step_of limit c unstarted).answer) past_ranges ≡ replicate 6 (Answer.Refused Refusal.Rules)
+  pub takes : map (λ (c : plainly.Call). (plainly.step_of limit c unstarted).answer) in_ranges ≡ replicate 5 (Ok Answer.Ok)
+  pub takes_no_more : map (λ (c : plainly.Call). (plainly.step_of limit c unstarted).answer) past_ranges ≡ replicate 6 (Err Refusal.Rules)
   -- 01 TEXT.2: of a call that is taken, each word exactly if
   -- 01 READ.5 01 READ.8 01 READ.9
   -- ok: START; or an ACK in an attempt with no NAK reported, while frames are unanswered or the last frame does not end at B+N
@@ -98,7 +99,7 @@ pub record Words : Type 0 where
   pub refuses : (r : Run) → refusal_of (next r).answer ≡ refusal_by limit (request r) (past r) r.last
   -- 01 REFUSAL.3
   -- no call answers refusal 3, but a START whose own numbers are out of range, and that one does
-  pub never_three : (r : Run) → ((next r).answer ≡ Answer.Refused Refusal.Rules) ↔ OutOfRange (plain_of r.last)
+  pub never_three : (r : Run) → ((next r).answer ≡ Err Refusal.Rules) ↔ OutOfRange (plain_of r.last)
 
 by_history : (r : Run) → Taken r → word r ≡ word_by (request r) (past r) (plain_of r.last)
 by_history r = word_is limit r.calls r.typed r.last r.tagged

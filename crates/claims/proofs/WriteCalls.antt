@@ -29,7 +29,7 @@ use Rattle.take.proofs.ask.Reads as ask-reads
 use Rattle.take.proofs.take.Kinds as take-of
 use Rattle.take.proofs.take.Reads as take-reads
 use Rattle.claims.proofs.Calls.{Outcome}
-use Rattle.claims.proofs.Named.{first3, behind3}
+use Rattle.claims.proofs.Named.{first3, behind3, of_command}
 
 abbrev pub Start : Type 0
 Start = Outcome 0 start_of_lem.ps start_of_lem.r start-reads.Post
@@ -82,29 +82,29 @@ abbrev pub ask_others : Ask → ℕ
 ask_others c = c.args.1.0
 
 abbrev pub ask_number : Ask → ℕ → ℕ
-ask_number c i = get_or (first3 c.args.1.1) i 0
+ask_number c i = get_or (of_command c.args.1.1.0) i 0
 
 abbrev pub ask_out : Ask → List ℕ
-ask_out c = (behind3 c.args.1.1).0.now
+ask_out c = c.args.1.1.1.0.now
 
 abbrev pub ask_left : Ask → List ℕ
-ask_left c = (behind3 c.exit.1.1).0.now
+ask_left c = c.exit.1.1.1.0.now
 
 abbrev pub ask_call : Ask → taking.Call
 ask_call c = taking.Call.ask (ask_others c) (ask_number c 0) (ask_number c 1) (ask_number c 2) (ask_out c)
 
 -- what `take` was given: three numbers, the frame, and the store as it was lent and as it is left
 abbrev pub take_number : Take → ℕ → ℕ
-take_number c i = get_or (first3 c.args.1) i 0
+take_number c i = get_or (of_command c.args.1.0) i 0
 
 abbrev pub take_frame : Take → List ℕ
-take_frame c = (behind3 c.args.1).0.now
+take_frame c = c.args.1.1.0.now
 
 abbrev pub take_store_lem : Take → List ℕ
-take_store_lem c = (behind3 c.args.1).1.0.now
+take_store_lem c = c.args.1.1.1.0.now
 
 abbrev pub take_left : Take → List ℕ
-take_left c = (behind3 c.exit.1).1.0.now
+take_left c = c.exit.1.1.1.0.now
 
 abbrev pub take_call : Take → taking.Call
 take_call c = taking.Call.take (take_number c 0) (take_number c 1) (take_number c 2) (take_frame c) (take_store_lem c)

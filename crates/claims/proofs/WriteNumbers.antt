@@ -1,4 +1,6 @@
 -- The numbers by which C sees a write: none is shared, and a write goes to numbers and back. Assumes nothing.
+use Rattle.refusals.specs.declared.Refusal.{Refusal}
+use Rattle.std.specs.Prelude.{Result}
 use Prim.Native.Nat.{ℕ, ◌<◌}
 use mathlib.Core.Bool.{true}
 use mathlib.Core.List.{[], ◌∷◌, map}
@@ -21,7 +23,7 @@ pub record WriteNumbers : Type 0 where
   -- a number names a phase exactly if it is that one's own
   pub phases : Named (λ (n : ℕ) (p : Phase). (n < 7) × (phase_of n ≡ p)) phase_number
   -- no two answers share one
-  pub answers : (a b : Answer) → answer_number a ≡ answer_number b → a ≡ b
+  pub answers : (a b : Result Answer Refusal) → answer_number a ≡ answer_number b → a ≡ b
   -- a write goes to numbers and back, and numbers that name one to a write and back
   pub forms : (w : Write) → formed (shown w) ≡ true
   pub reads : (w : Write) → state_of (shown w) ≡ w

@@ -1,5 +1,6 @@
 -- A call on a write answers refusal k exactly if k is the first of its causes that holds, and then leaves the state and every lent byte: each of its
 -- tests decides one cause. Assumes nothing.
+use Rattle.std.specs.Prelude.{Err}
 use Prim.Native.Nat.{ℕ, ◌^◌, ◌<◌}
 use mathlib.Core.Bool.{true}
 use mathlib.Core.List.{List}
@@ -25,12 +26,12 @@ use Rattle.claims.proofs.WriteCalls.{Ask, Take, ask_others, ask_number, ask_out,
 
 -- what is claimed of a call on s that answered r, with these bytes before and behind it
 abbrev pub Says : List Ground → Write → Stepped → List ℕ → List ℕ → Type 1
-Says gs s r before after = Refuses Answer.Refused gs r.answer s r.state before after
+Says gs s r before after = Refuses Err gs r.answer s r.state before after
 
 pub record WriteRefusals : Type 1 where
   -- 02 c.6
   -- START to CANCEL: WriteSteps shows that these are the methods' answers
-  pub exactly : (s : Write) (c : Call) → s.tags < 2 ^ 64 → Typed limit c → (k : Refusal) → ((step_of limit c s).answer ≡ Answer.Refused k) ↔ First (grounds_of limit c s) k
+  pub exactly : (s : Write) (c : Call) → s.tags < 2 ^ 64 → Typed limit c → (k : Refusal) → ((step_of limit c s).answer ≡ Err k) ↔ First (grounds_of limit c s) k
   pub keeps : (s : Write) (c : Call) → is_refused (step_of limit c s).answer ≡ true → (step_of limit c s).state ≡ s
   -- an XFER_RDY with its frame, and data with its frame and the store
   pub asks : (c : Ask) → c.args.0.tags < 2 ^ 64 → ask_others c < 2 ^ 64

@@ -1,5 +1,6 @@
 -- The target's write side over any calls of C from the struct of all zeros, each lent the state that the one before it gave back, in the numbers that
 -- C sees. Assumes nothing.
+use Rattle.std.specs.Prelude.{Ok}
 use Prim.Native.Nat.{ℕ, ◌+◌, ◌-◌, ◌^◌, ◌≤◌, ◌<◌, min}
 use mathlib.Core.Bool.{true, false}
 use mathlib.Core.List.{List, [], ◌∷◌, ◌++◌}
@@ -8,7 +9,6 @@ use mathlib.Core.Path.{◌≡◌, ap, subst, ◌∙◌}
 use lib.ListN.{length, take, drop}
 use Rattle.laws.specs.Tags.{digit}
 use Rattle.ssp_frame.specs.Xfer.{read_xfer_rdy}
-use Rattle.ssp_frame.specs.declared.xfer_rdy.XferRead.TheVariants.{Frame}
 use Rattle.write.specs.Steps.{limit}
 use Rattle.write_history.specs.History.{Request, Xfer, Data, Entry, asked, came, View, due, good, failed, view, takes, end_of_data, Among}
 use Rattle.write_history.specs.Words.{word_by, underway}
@@ -84,7 +84,7 @@ pub record WriteRuns : Type 0 where
   pub same : (r : Run) (x y : Xfer) (ys : List Xfer) → added r ≡ asked x ∷ [] → (said r).fate ≡ failed → (said r).asks ≡ y ∷ ys → SameBytes x.bytes y.bytes
   -- in the bytes that an ask wrote the reader finds the addresses and the tag that it was given, the next byte and the range's rest
   pub addressed : (s : State) (others destination source tag : ℕ) (out : List ℕ) → s.tags < 2 ^ limit → tag < 65536 → is_refusal (face_of (ask others destination source tag out) s).answer ≡ false
-      → read_xfer_rdy (take 36 (bytes_of others destination source tag out s)) ≡ Frame (head_of limit others (state_of s) destination source tag)
+      → read_xfer_rdy (take 36 (bytes_of others destination source tag out s)) ≡ Ok (head_of limit others (state_of s) destination source tag)
   -- the struct's tags are those in use by the history, none once finished; its count of retries is that of the failures
   pub tags : (r : Run) → Unfinished (now r) → (t : ℕ) → (digit (now r).tags t ≡ 1) ↔ Among t (said r).busy
   pub freed : (r : Run) → (Unfinished (now r) → ⊥) → (now r).tags ≡ 0

@@ -1,5 +1,6 @@
 -- The target's write side, sentence by sentence, over any calls from the state before START, refused ones and later STARTs among them, with bytes
 -- and without. The history is read from the calls, from the bytes of each XFER_RDY that was written and of each DATA frame that came. Assumes nothing.
+use Rattle.std.specs.Prelude.{Ok}
 use Prim.Native.Nat.{ℕ, ◌+◌, ◌-◌, ◌≤◌, ◌<◌, min}
 use mathlib.Core.Bool.{true, false}
 use mathlib.Core.List.{List, [], ◌∷◌, ◌++◌}
@@ -96,10 +97,10 @@ pub record Writes : Type 0 where
   pub next_byte : (r : Run) → (now r).next ≡ reached r
   -- 02 c.4
   -- complete is answered only if each byte from B to B+N-1 lies in exactly one taken frame, and no taken frame lies outside;
-  pub complete : (r : Run) → (next r).answer ≡ Answer.Done → Covers (begin r) (end r) (view (added r ++ past r)).taken
+  pub complete : (r : Run) → (next r).answer ≡ Ok Answer.Done → Covers (begin r) (end r) (view (added r ++ past r)).taken
   -- 02 c.4
   -- and a taken frame that ends at B+N is answered so
-  pub completes : (r : Run) (d : Data) → added r ≡ came d ∷ [] → takes (said r) d ≡ true → end_of_data d ≡ end r → (next r).answer ≡ Answer.Done
+  pub completes : (r : Run) (d : Data) → added r ≡ came d ∷ [] → takes (said r) d ≡ true → end_of_data d ≡ end r → (next r).answer ≡ Ok Answer.Done
   -- 02 c.2
   -- a taken frame begins with the first byte that was not taken,
   pub in_order : (r : Run) (d : Data) → added r ≡ came d ∷ [] → takes (said r) d ≡ true → d.offset ≡ reached r
@@ -134,7 +135,7 @@ pub record Writes : Type 0 where
   -- retries used is the number of failures, at most R; failed is answered exactly at failure R+1
   pub used : (r : Run) → unfinished (now r).phase ≡ true → (now r).used ≡ (said r).failures
   pub bounded : (r : Run) → (now r).used ≤ (now r).resends
-  pub fails : (r : Run) → ((next r).answer ≡ Answer.Fail) ↔ (((said r).failures ≡ (said r).request.resends) × ((view (added r ++ past r)).failures ≡ (said r).request.resends + 1))
+  pub fails : (r : Run) → ((next r).answer ≡ Ok Answer.Fail) ↔ (((said r).failures ≡ (said r).request.resends) × ((view (added r ++ past r)).failures ≡ (said r).request.resends + 1))
   -- at most ⌈N/X⌉ + R XFER_RDYs go for one START
   pub few : (r : Run) → length (said r).asks ≤ ranges (said r).request.count (said r).request.burst + (said r).request.resends
   -- 02 c.4
@@ -145,11 +146,11 @@ pub record Writes : Type 0 where
   -- 02 c.1: The recorder must also take calibration files.
   -- if each taken frame carries one image's bytes at its offset, at complete the store's first N bytes are the image's from B on
   pub image : (r : Run) (store image : List ℕ) → AllLent limit r.calls unstarted store → Lent r.last (store_of limit r.calls unstarted store)
-      → FromImage image (view (added r ++ past r)).taken → (next r).answer ≡ Answer.Done
+      → FromImage image (view (added r ++ past r)).taken → (next r).answer ≡ Ok Answer.Done
       → take (said r).request.count (store_after limit r.last (now r) (store_of limit r.calls unstarted store)) ≡ take (said r).request.count (drop (begin r) image)
   -- 02 c.6
   -- data that is not taken carries a tag in use, lies in the latest XFER_RDY's range, and leaves state and store
-  pub late : (r : Run) (d : Data) → added r ≡ came d ∷ [] → takes (said r) d ≡ false → LateData (said r) d × (next r ≡ record { answer = Answer.Late; state = now r })
+  pub late : (r : Run) (d : Data) → added r ≡ came d ∷ [] → takes (said r) d ≡ false → LateData (said r) d × (next r ≡ record { answer = Ok Answer.Late; state = now r })
   pub late_store : (r : Run) (destination source tag : ℕ) (frame store : List ℕ) → takes (said r) (data_in frame) ≡ false → take_store limit (now r) destination source tag frame store ≡ store
   -- every call that is taken answers the word of the history: complete, a range is full, late, a retry, failed and so on; and the write is
   -- unfinished exactly if that says so

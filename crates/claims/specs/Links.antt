@@ -1,5 +1,5 @@
 -- Document 01's causes of refusal of a link's calls as propositions, in its words. Assumes nothing.
-use Rattle.std.specs.Prelude.{ℕ, List, [], ◌∷◌, ◌⊎◌, ◌≡◌, length}
+use Rattle.std.specs.Prelude.{ℕ, List, [], ◌∷◌, ◌⊎◌, ◌≡◌, length, None, Option, Some}
 use Rattle.refusals.specs.Causes.{Ground, ◌if◌}
 use Rattle.refusals.specs.declared.Refusal.{Refusal}
 use Rattle.open_frame.specs.declared.OpenFrame.{OpenFrame}
@@ -7,7 +7,6 @@ use Rattle.xl_parts.specs.declared.Phase.{Phase}
 use Rattle.xl_parts.specs.declared.Primitive.{Primitive}
 use Rattle.xl_parts.specs.declared.Message.{Message}
 use Rattle.xl_parts.specs.declared.Event.{Event}
-use Rattle.xl_parts.specs.declared.Held.{Held}
 use Rattle.xl_parts.specs.declared.State.{State}
 use Rattle.claims.specs.Causes.{OpenFields, OpenBytes}
 
@@ -25,15 +24,15 @@ pub data Working : Phase → Type 0 where
   in6 : Working Phase.Xl6
 
 -- a frame, if there is one, has fields as in OPEN
-abbrev pub Fields : Held → Type 0
-Fields Held.Nothing = Unit {0}
-Fields (Held.Frame f) = OpenFields f.head
+abbrev pub Fields : Option OpenFrame → Type 0
+Fields None = Unit {0}
+Fields (Some f) = OpenFields f.head
 
 -- 01 XL.4
 pub record Rules (s : State) : Type 0 where
   pub held : Fields s.memory.held
   pub remembered : Fields s.memory.heard
-  pub holds : Working s.phase → s.memory.held ≡ Held.Nothing → ⊥
+  pub holds : Working s.phase → s.memory.held ≡ None → ⊥
 
 -- 01 REFUSAL.2 01 REFUSAL.3
 abbrev pub step_grounds : OpenFrame → Event → State → List Ground

@@ -1,4 +1,5 @@
 -- A number is read as it is written, and written as it is read: a digit behind a number is one step of both. Assumes nothing.
+use Rattle.std.specs.Prelude.{None, Option, Some}
 use Prim.Native.Nat.{ℕ, zero, suc, ◌+◌, ◌-◌, ◌*◌, ◌/◌, ◌%◌, ◌^◌, ◌≤◌, ◌<◌}
 use mathlib.Core.Bool.{Bool, true, false, not, cond, ◌&&◌}
 use mathlib.Core.List.{List, [], ◌∷◌, ◌++◌, append-nil, append_assoc}
@@ -11,9 +12,7 @@ use lib.Dec.{ltb, leb, eqb}
 use lib.ListN.{length, take, drop, get_or, set, length-append, length-set, length-drop, drop_of_length-le, get_or-append}
 use lib.Seq.{drop-cons, drop-set-lt, get_or-set_same, take_all}
 use Rattle.laws.proofs.Bools.{never, and_left, and_right, and_true, and_false, by_test, on_false}
-use Rattle.lines.specs.Numbers.{is_digit, digit_of, all_digits, begins, value_from, is_number, read_number, digits_by, decimal}
-use Rattle.lines.specs.declared.Number.{Number}
-use Rattle.lines.specs.declared.Number.TheVariants.{Value, Not}
+use Rattle.lines.specs.Numbers.{is_digit, digit_read, all_digits, begins, value_from, is_number, read_number, digits_by, decimal}
 
 -- ---- how a number is written
 
@@ -117,13 +116,13 @@ decimal_begins zero = rw (decimal_one 0 (omega arith))
 decimal_begins (suc n) = begins_by (decimal (suc n)) (decimal_filled (suc n)) (front (suc n) (omega arith))
 
 -- ROUND TRIP 1: what was written is read
-pub read_written : (most n : ℕ) → n ≤ most → read_number most (decimal n) ≡ Value n
+pub read_written : (most n : ℕ) → n ≤ most → read_number most (decimal n) ≡ Some n
 unfolding read_number
 read_written most n h = rw (decimal_begins n, decimal_digits n, decimal_value n, le-leb n most h)
 
 -- what is left of reading, with v read already
-abbrev pub read_from : ℕ → ℕ → List ℕ → Number
-read_from most v s = cond (all_digits s && leb (value_from v s) most) (Value (value_from v s)) Not
+abbrev pub read_from : ℕ → ℕ → List ℕ → Option ℕ
+read_from most v s = cond (all_digits s && leb (value_from v s) most) (Some (value_from v s)) None
 
 -- a digit behind v's digits
 grown : (v b : ℕ) → 1 ≤ v → is_digit b ≡ true → decimal (v * 10 + (b - 48)) ≡ decimal v ++ (b ∷ [])
@@ -163,10 +162,10 @@ number_is (b ∷ s) p d =
         off false e = refl
 
 -- ROUND TRIP 2: what was read is written, and it is no larger than it may be
-pub written_read : (most : ℕ) (s : List ℕ) (n : ℕ) → read_number most s ≡ Value n → (decimal n ≡ s) × (n ≤ most)
+pub written_read : (most : ℕ) (s : List ℕ) (n : ℕ) → read_number most s ≡ Some n → (decimal n ≡ s) × (n ≤ most)
 unfolding read_number
 written_read most s n =
-    by_test (λ (x : Number). x ≡ Value n → (decimal n ≡ s) × (n ≤ most)) (is_number most s)
+    by_test (λ (x : Option ℕ). x ≡ Some n → (decimal n ≡ s) × (n ≤ most)) (is_number most s)
     (λ t e.
     let v : value_from 0 s ≡ n = cc in
     let r : all_digits s && leb (value_from 0 s) most ≡ true = and_right (begins s) _ t in
@@ -176,12 +175,12 @@ written_read most s n =
 
 -- ---- the reader's turns
 
-pub read_empty : (most : ℕ) (s : List ℕ) → length s ≡ 0 → read_number most s ≡ Not
+pub read_empty : (most : ℕ) (s : List ℕ) → length s ≡ 0 → read_number most s ≡ None
 unfolding read_number
 read_empty most [] h = refl
 read_empty most (b ∷ s) h = absurd (omega arith)
 
-pub read_zero : (most : ℕ) (s : List ℕ) → ltb 1 (length s) && eqb (get_or s 0 0) 48 ≡ true → read_number most s ≡ Not
+pub read_zero : (most : ℕ) (s : List ℕ) → ltb 1 (length s) && eqb (get_or s 0 0) 48 ≡ true → read_number most s ≡ None
 unfolding read_number
 read_zero most [] h = absurd (never h)
 read_zero most (b ∷ []) h = absurd (never h)
@@ -198,38 +197,37 @@ read_rest most (b ∷ c ∷ s) n h =
     let e : eqb b 48 ≡ false = rw l at h in
     rw e
 
--- the digit of a byte tells whether it is one
-pub no_digit : (b : ℕ) → 9 < digit_of b → is_digit b ≡ false
-no_digit b = by (is_digit b) refl
+-- what is read of a byte tells whether it is a digit
+no_digit : (b : ℕ) → digit_read b ≡ None → is_digit b ≡ false
+no_digit b = by (is_digit b)
   where
-    by : (t : Bool) → is_digit b ≡ t → 9 < cond t (b - 48) 10 → t ≡ false
-    by true e h = absurd (omega (arith, digit_range b e))
-    by false e h = refl
+    by : (t : Bool) → ◌≡◌ {A = Option ℕ} (cond t (Some (b - 48)) None) None → t ≡ false
+    by true e = cc
+    by false e = refl
 
-pub is_digit_lem : (b : ℕ) → digit_of b ≤ 9 → (is_digit b ≡ true) × (digit_of b ≡ b - 48)
-is_digit_lem b = by (is_digit b)
+is_digit_lem : (b d : ℕ) → digit_read b ≡ Some d → (is_digit b ≡ true) × (b - 48 ≡ d)
+is_digit_lem b d = by (is_digit b)
   where
-    by : (t : Bool) → cond t (b - 48) 10 ≤ 9 → (t ≡ true) × (cond t (b - 48) 10 ≡ b - 48)
-    by true h = (refl, refl)
-    by false h = absurd (omega arith)
+    by : (t : Bool) → ◌≡◌ {A = Option ℕ} (cond t (Some (b - 48)) None) (Some d) → (t ≡ true) × (b - 48 ≡ d)
+    by true e = (refl, cc)
+    by false e = (cc, cc)
 
-module _ (most : ℕ) (s : List ℕ) (v i d : ℕ) (h : i < length s) (e : d ≡ digit_of (get_or s i 0)) where
-  turn : read_from most v (drop i s) ≡ cond ((is_digit (get_or s i 0) && all_digits (drop (i + 1) s)) && leb (value_from (v * 10 + (get_or s i 0 - 48)) (drop (i + 1) s)) most) (Value (value_from (v * 10 + (get_or s i 0 - 48)) (drop (i + 1) s))) Not
+module _ (most : ℕ) (s : List ℕ) (v i : ℕ) (h : i < length s) where
+  turn : read_from most v (drop i s) ≡ cond ((is_digit (get_or s i 0) && all_digits (drop (i + 1) s)) && leb (value_from (v * 10 + (get_or s i 0 - 48)) (drop (i + 1) s)) most) (Some (value_from (v * 10 + (get_or s i 0 - 48)) (drop (i + 1) s))) None
   turn = rw (add-one i, drop-cons s i 0 h)
 
-  pub turn_other : 9 < d → read_from most v (drop i s) ≡ Not
-  turn_other l = turn ∙ rw (no_digit (get_or s i 0) (omega (arith, e)))
+  pub turn_other : digit_read (get_or s i 0) ≡ None → read_from most v (drop i s) ≡ None
+  turn_other e = turn ∙ rw (no_digit (get_or s i 0) e)
 
-  pub turn_digit : d ≤ 9 → read_from most v (drop i s) ≡ read_from most (v * 10 + d) (drop (i + 1) s)
-  turn_digit l =
-      let is = is_digit_lem (get_or s i 0) (omega (arith, e)) in
-      let same : get_or s i 0 - 48 ≡ d = sym (e ∙ is.1) in
-      turn ∙ (λ j. cond ((is.0 j && all_digits (drop (i + 1) s)) && leb (value_from (v * 10 + same j) (drop (i + 1) s)) most) (Value (value_from (v * 10 + same j) (drop (i + 1) s))) Not)
+  pub turn_digit : (d : ℕ) → digit_read (get_or s i 0) ≡ Some d → read_from most v (drop i s) ≡ read_from most (v * 10 + d) (drop (i + 1) s)
+  turn_digit d e =
+      let is = is_digit_lem (get_or s i 0) d e in
+      turn ∙ (λ j. cond ((is.0 j && all_digits (drop (i + 1) s)) && leb (value_from (v * 10 + is.1 j) (drop (i + 1) s)) most) (Some (value_from (v * 10 + is.1 j) (drop (i + 1) s))) None)
 
-  pub turn_large : d ≤ 9 → most < v * 10 + d → read_from most v (drop i s) ≡ Not
-  turn_large l m =
-      turn_digit l
-      ∙ ap (λ (t : Bool). cond t (Value (value_from (v * 10 + d) (drop (i + 1) s))) Not)
+  pub turn_large : (d : ℕ) → digit_read (get_or s i 0) ≡ Some d → most < v * 10 + d → read_from most v (drop i s) ≡ None
+  turn_large d e m =
+      turn_digit d e
+      ∙ ap (λ (t : Bool). cond t (Some (value_from (v * 10 + d) (drop (i + 1) s))) None)
       (and_false (all_digits (drop (i + 1) s)) (lt-leb (value_from (v * 10 + d) (drop (i + 1) s)) most (omega (arith, m, grows (v * 10 + d) (drop (i + 1) s)))))
 
 -- ---- the writer's turns: the digits stand at the end of ds, the last first

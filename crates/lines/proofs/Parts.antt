@@ -7,10 +7,14 @@ use mathlib.Core.Path.{◌≡◌, refl, sym, ap, ◌∙◌}
 use native.Mathlib.Nat.{add-zero, add-suc}
 use native.Mathlib.Omega.{arith}
 use native.Mathlib.Numerals.{add-one}
-use borrow.Author.Tests.{eqb-true, eq-eqb, ne_eqb, ltb-true, ltb-false, lt-leb, le-leb}
+use borrow.Author.Tests.{eqb-true, eq-eqb, ltb-true, ltb-false, lt-leb, le-leb}
 use lib.Dec.{eqb, ltb}
 use lib.ListN.{length, take, drop, get_or, length-drop, drop_of_length-le}
-use lib.Seq.{drop-cons, drop-drop, drop-length, take_all}
+use lib.Seq.{drop-drop, drop-length, take_all}
+use Rattle.std.specs.Prelude.{count_by, position, Some, None}
+use Rattle.std.specs.Option.{unwrap_or}
+use Rattle.std.specs.List.{position_or_len}
+use Rattle.std.proofs.lemmas.List.Sums.{sum_by-cons}
 use Rattle.laws.proofs.Bools.{never, and_left, and_right, and_true, by_test}
 use Rattle.lines.specs.Parts.{tab, add_to, parts_of, fields_of, fields_within, field_at, joined, place_of, place_from, behind_tabs, same}
 
@@ -109,16 +113,21 @@ nowhere b (x ∷ s) h = by (eqb x b) (nowhere b s) h
     by true r h = absurd (omega arith)
     by false r h = r (omega arith)
 
--- the search goes on behind a byte that is another
-module _ (b : ℕ) (s : List ℕ) (i : ℕ) (h : i < length s) where
-  turn : place_from b s i ≡ i + cond (eqb (get_or s i 0) b) 0 (suc (place_of b (drop (i + 1) s)))
-  turn = rw (add-one i, drop-cons s i 0 h)
+-- std counts the bytes in front of it
+passed : (b : ℕ) (s : List ℕ) → position_or_len (λ (x : ℕ). eqb x b) s ≡ place_of b s
+passed b [] = refl
+passed b (x ∷ s) = by (eqb x b) (passed b s)
+  where
+    by : (t : Bool) → position_or_len (λ (x : ℕ). eqb x b) s ≡ place_of b s → cond (not t) (1 + position_or_len (λ (x : ℕ). eqb x b) s) 0 ≡ cond t 0 (suc (place_of b s))
+    by true e = refl
+    by false e = omega (arith, e)
 
-  pub found : get_or s i 0 ≡ b → place_from b s i ≡ i
-  found e = turn ∙ rw (eq-eqb (get_or s i 0) b e) (add-zero i)
-
-  pub passed : (get_or s i 0 ≡ b → ⊥) → place_from b s i ≡ place_from b s (i + 1)
-  passed e = turn ∙ rw (ne_eqb (get_or s i 0) b e) (omega arith)
+pub place_is : (b : ℕ) (s : List ℕ) → unwrap_or (position (λ (x : ℕ). eqb x b) s) (length s) ≡ place_of b s
+place_is b s = by (ltb (position_or_len (λ (x : ℕ). eqb x b) s) (length s)) refl ∙ passed b s
+  where
+    by : (t : Bool) → ltb (position_or_len (λ (x : ℕ). eqb x b) s) (length s) ≡ t → unwrap_or (cond t (Some (position_or_len (λ (x : ℕ). eqb x b) s)) None) (length s) ≡ position_or_len (λ (x : ℕ). eqb x b) s
+    by true e = refl
+    by false e = omega (arith, ltb-false (position_or_len (λ (x : ℕ). eqb x b) s) (length s) e, passed b s, place_le b s)
 
 pub past : (b : ℕ) (s : List ℕ) (i : ℕ) → length s ≤ i → place_from b s i ≡ i
 past b s i h = ap (λ (l : List ℕ). i + place_of b l) (drop_of_length-le s h) ∙ add-zero i
@@ -132,23 +141,13 @@ place_within b s i h = omega (arith, place_le b (drop i s), length-drop i s)
 added : (b : ℕ) (s : List ℕ) → length (add_to b (fields_of s)) ≡ length (fields_of s)
 added b s = on_fields (λ ps. length (add_to b ps) ≡ length ps) (λ p ps. refl) s
 
-module _ (s : List ℕ) (i n : ℕ) (h : i < length s) (inv : n + length (fields_of (drop i s)) ≡ length (fields_of s) + 1) where
-  step : length (fields_of (drop i s)) ≡ length (cond (eqb (get_or s i 0) tab) ([] ∷ fields_of (drop (i + 1) s)) (add_to (get_or s i 0) (fields_of (drop (i + 1) s))))
-  step = rw (add-one i, drop-cons s i 0 h)
-
-  pub count_on : (n + cond (eqb (get_or s i 0) tab) 1 0) + length (fields_of (drop (i + 1) s)) ≡ length (fields_of s) + 1
-  count_on =
-      let k : length (fields_of (drop i s)) ≡ cond (eqb (get_or s i 0) tab) 1 0 + length (fields_of (drop (i + 1) s)) = step ∙ by (eqb (get_or s i 0) tab) in
-      omega (arith, inv)
-    where
-      by : (t : Bool) → length (cond t ([] ∷ fields_of (drop (i + 1) s)) (add_to (get_or s i 0) (fields_of (drop (i + 1) s)))) ≡ cond t 1 0 + length (fields_of (drop (i + 1) s))
-      by true = omega arith
-      by false = added (get_or s i 0) (drop (i + 1) s) ∙ omega arith
-
-pub counted : (s : List ℕ) (i n : ℕ) → length s ≤ i → n + length (fields_of (drop i s)) ≡ length (fields_of s) + 1 → n ≡ length (fields_of s)
-counted s i n h inv =
-    let k : length (fields_of (drop i s)) ≡ 1 = ap (λ (l : List ℕ). length (fields_of l)) (drop_of_length-le s h) in
-    omega (arith, inv)
+pub counted : (s : List ℕ) → length (fields_of s) ≡ count_by (λ (b : ℕ). eqb b tab) s + 1
+counted [] = refl
+counted (b ∷ s) = by (eqb b tab) (counted s) ∙ ap (λ (n : ℕ). n + 1) (sym (sum_by-cons (λ (x : ℕ). cond (eqb x tab) 1 0) b s))
+  where
+    by : (t : Bool) → length (fields_of s) ≡ count_by (λ (x : ℕ). eqb x tab) s + 1 → length (cond t ([] ∷ fields_of s) (add_to b (fields_of s))) ≡ (cond t 1 0 + count_by (λ (x : ℕ). eqb x tab) s) + 1
+    by true e = omega (arith, e)
+    by false e = added b s ∙ e ∙ omega arith
 
 pub within : (longest : ℕ) (s : List ℕ) → length s ≤ longest → fields_within longest s ≡ fields_of s
 within longest s h = ap (λ (t : Bool). cond t (fields_of s) []) (le-leb (length s) longest h)
@@ -232,16 +231,6 @@ same_is (x ∷ s) (y ∷ t) e = λ i. eqb-true x y (and_left (eqb x y) (same s t
 pub same_self : (s : List ℕ) → same s s ≡ true
 same_self [] = refl
 same_self (x ∷ s) = rw (eq-eqb x x refl) (same_self s)
-
-module _ (s t : List ℕ) (i : ℕ) (h : i < length s) (k : i < length t) where
-  pair : same (drop i s) (drop i t) ≡ eqb (get_or s i 0) (get_or t i 0) && same (drop (i + 1) s) (drop (i + 1) t)
-  pair = rw (add-one i, drop-cons s i 0 h, drop-cons t i 0 k)
-
-  pub same_next : get_or s i 0 ≡ get_or t i 0 → same (drop i s) (drop i t) ≡ same (drop (i + 1) s) (drop (i + 1) t)
-  same_next e = pair ∙ rw (eq-eqb (get_or s i 0) (get_or t i 0) e)
-
-  pub same_not : (get_or s i 0 ≡ get_or t i 0 → ⊥) → same (drop i s) (drop i t) ≡ false
-  same_not e = pair ∙ rw (ne_eqb (get_or s i 0) (get_or t i 0) e)
 
 pub same_other : (s t : List ℕ) → (length s ≡ length t → ⊥) → same s t ≡ false
 same_other s t f = by (same s t) refl

@@ -1,16 +1,18 @@
 -- Bytes put behind bytes are both put at once: each writer goes on at the place behind the last, and past the end nothing is stored
 -- by either. Assumes nothing.
-use Prim.Native.Nat.{ℕ, zero, suc, ◌+◌, ◌≤◌, ◌<◌}
+use Prim.Native.Nat.{ℕ, zero, suc, ◌+◌, ◌-◌, ◌≤◌, ◌<◌, min}
 use mathlib.Core.Bool.{Bool, true, false}
-use mathlib.Core.List.{List, [], ◌∷◌, ◌++◌}
+use mathlib.Core.List.{List, [], ◌∷◌, ◌++◌, append_assoc}
 use mathlib.Core.Path.{◌≡◌, refl, sym, ap, ◌∙◌}
 use native.Mathlib.Nat.{add-zero, add-suc, suc-add}
-use native.Mathlib.Numerals.{add-one}
 use native.Mathlib.Omega.{arith}
 use borrow.Author.Tests.{leb-true, leb-false}
 use lib.Dec.{leb}
-use lib.ListN.{length, length-append, length-take, set, take, drop, get_or}
-use lib.Seq.{sets, length-sets, set_out, take-suc, take_all, take-nil, drop-nil}
+use lib.ListN.{length, length-append, length-take, set, take, drop, drop_of_length-le}
+use lib.Seq.{sets, length-sets, set_out, take_all, take-nil, drop-nil, drop-drop, length-take-le}
+use borrow.Rule.Slice.PartMut.{put_mid}
+use Rattle.std.proofs.lemmas.List.{take-append-drop}
+use Rattle.std.proofs.lemmas.List.Edits.{sets-eq}
 use Rattle.lines.specs.Puts.{behind, Put}
 
 sets_append : (l : List ℕ) (at : ℕ) (xs ys : List ℕ) → sets (sets l at xs) (at + length xs) ys ≡ sets l at (xs ++ ys)
@@ -62,12 +64,33 @@ stored l at b h = record { place = omega arith; bytes = refl }
 pub lost : (l : List ℕ) (at b : ℕ) → length l ≤ at → Put l at (b ∷ []) at l
 lost l at b h = record { place = omega arith; bytes = sym (set_out l at b h) }
 
--- a turn of the loop that puts s byte by byte, and its end
-pub one_more : {l m k : List ℕ} {at r q : ℕ} (s : List ℕ) (i : ℕ) → i < length s → Put l at (take i s) r m → Put m r (get_or s i 0 ∷ []) q k → Put l at (take (i + 1) s) q k
-one_more s i h a b = rw (add-one i, take-suc s i 0 h) (then a b)
+pub none_stored : (l xs : List ℕ) (at : ℕ) → length l ≤ at → Put l at xs at l
+none_stored l xs at h = record { place = omega arith; bytes = sym (sets_out l at xs h) }
 
-pub all : {l m : List ℕ} {at r : ℕ} (s : List ℕ) (i : ℕ) → length s ≤ i → Put l at (take i s) r m → Put l at s r m
-all s i h a = rw (take_all i s h) at a
+-- as many bytes as there is room for, copied to their place
+pub copied : (l xs : List ℕ) (at n k : ℕ) → at ≤ length l → n ≡ min (length xs) (length l - at) → k ≡ n → Put l at xs (at + n) (put_mid at k l (take n xs))
+copied l xs at n k h e f =
+    let ys = take n xs in
+    let long : length ys ≡ n = length-take-le n xs (omega arith) in
+    let room : at + length ys ≤ length l = omega arith in
+    let size : at + k ≡ at + length ys = omega arith in
+    let stored : sets l at ys ≡ take at l ++ (ys ++ drop (at + length ys) l) = sets-eq ys l at room ∙ append_assoc (take at l) ys (drop (at + length ys) l) in
+    let all : ys ++ drop n xs ≡ xs = take-append-drop n xs in
+    record {
+      place = omega arith;
+      bytes =
+          ap (λ (z : List ℕ). take at l ++ (ys ++ z)) (drop-drop k at l ∙ ap (λ (i : ℕ). drop i l) size)
+          ∙ sym stored
+          ∙ sym (rest (leb (length xs) n) refl)
+          ∙ sets_append l at ys (drop n xs)
+          ∙ ap (sets l at) all;
+    }
+  where
+    rest : (t : Bool) → leb (length xs) n ≡ t → sets (sets l at (take n xs)) (at + length (take n xs)) (drop n xs) ≡ sets l at (take n xs)
+    rest true q = rw (drop_of_length-le xs {i = n} (leb-true (length xs) n q))
+    rest false q =
+        let less : n < length xs = leb-false (length xs) n q in
+        sets_out (sets l at (take n xs)) (at + length (take n xs)) (drop n xs) (omega (arith, length-sets l at (take n xs), length-take-le n xs (omega arith)))
 
 -- ---- what was put, as a part of what stands there
 

@@ -1,15 +1,13 @@
 -- Decimal numbers in bytes: what is one, and how one is written. Assumes nothing.
-use Rattle.std.specs.Prelude.{ℕ, zero, suc, ◌+◌, ◌-◌, ◌*◌, ◌/◌, ◌%◌, Bool, true, false, not, cond, ◌&&◌, List, [], ◌∷◌, ◌++◌, ltb, leb, eqb}
-use Rattle.lines.specs.declared.Number.{Number}
-use Rattle.lines.specs.declared.Number.TheVariants.{Value, Not}
+use Rattle.std.specs.Prelude.{ℕ, zero, suc, ◌+◌, ◌-◌, ◌*◌, ◌/◌, ◌%◌, Bool, true, false, not, cond, ◌&&◌, List, [], ◌∷◌, ◌++◌, ltb, leb, eqb, None, Option, Some}
 
 -- '0' to '9'
 abbrev pub is_digit : ℕ → Bool
 is_digit b = leb 48 b && leb b 57
 
--- the digit that b writes, or 10
-abbrev pub digit_of : ℕ → ℕ
-digit_of b = cond (is_digit b) (b - 48) 10
+-- the digit that b writes, if it writes one
+abbrev pub digit_read : ℕ → Option ℕ
+digit_read b = cond (is_digit b) (Some (b - 48)) None
 
 abbrev pub all_digits : List ℕ → Bool
 all_digits [] = true
@@ -30,8 +28,8 @@ value_from v (b ∷ s) = value_from (v * 10 + (b - 48)) s
 abbrev pub is_number : ℕ → List ℕ → Bool
 is_number most s = begins s && (all_digits s && leb (value_from 0 s) most)
 
-unfoldable pub read_number : ℕ → List ℕ → Number
-read_number most s = cond (is_number most s) (Value (value_from 0 s)) Not
+unfoldable pub read_number : ℕ → List ℕ → Option ℕ
+read_number most s = cond (is_number most s) (Some (value_from 0 s)) None
 
 -- the digits of n, the highest first; n + 1 steps are enough
 abbrev pub digits_by : ℕ → ℕ → List ℕ

@@ -2,77 +2,58 @@
 // are arguments.
 #![tactic(auto)]
 
-ghost use Rattle.std.specs.Prelude.{◌≡◌, ◌+◌, ◌<◌, ◌≤◌, cond, [], ◌∷◌, eqb, length, drop};
-ghost use Rattle.lines.specs.Numbers.{digit_of, read_number, decimal};
-ghost use Rattle.lines.specs.Parts.{tab, field_count, field_at, place_from, behind_tabs};
+ghost use Rattle.std.specs.Prelude.{◌≡◌, ◌+◌, ◌==◌, ◌<◌, ◌≤◌, [], ◌∷◌, length, drop, position};
+ghost use Rattle.lines.specs.Numbers.{digit_read, read_number, decimal};
+ghost use Rattle.lines.specs.Parts.{field_count, field_at, place_from, behind_tabs};
 ghost use Rattle.lines.specs.Parts as parts;
 ghost use Rattle.lines.specs.Puts.{Put};
 
-#[derive(Clone, Copy)]
-pub enum Number {
-    Value(u64),
-    // The bytes write no number, or one that is too large.
-    Not,
-}
-
-// The digit that b writes; 10 where it writes none.
-fn digit(b: u8) -> u64
-    ensures { result ≡ digit_of b }
+// The digit that b writes, if it writes one.
+fn digit_read(b: u8) -> Option<u64>
+    ensures { result ≡ digit_read b }
 {
-    if (48 <= b) & (b <= 57) {
-        return (b - 48) as u64;
+    if b.is_ascii_digit() {
+        return Some(u64::from(b - b'0'));
     }
-    10
-}
-
-// 1 for a tab, else 0.
-fn tabs(b: u8) -> usize
-    ensures { (result ≡ cond (eqb b tab) 1 0) × (result ≤ 1) }
-{
-    if b == b'\t' { 1 } else { 0 }
+    None
 }
 
 // The number that s writes, at most `most`.
-pub fn read_number(s: &[u8], most: u64) -> Number
+pub fn read_number(s: &[u8], most: u64) -> Option<u64>
     ensures { result ≡ read_number most s.now }
 {
-    if s.len() == 0 {
-        return Number::Not;
+    if s.is_empty() {
+        return None;
     }
-    if (1 < s.len()) & (s[0] == 48) {
-        return Number::Not;
+    if (1 < s.len()) & (s[0] == b'0') {
+        return None;
     }
-    let mut v: u64 = 0;
-    let mut i = 0;
-    while i < s.len() {
-        let d = digit(s[i]);
-        if 9 < d {
-            return Number::Not;
+    let mut value: u64 = 0;
+    for byte in s {
+        let last = digit_read(*byte)?;
+        value = value.checked_mul(10)?.checked_add(last)?;
+        if most < value {
+            return None;
         }
-        if most < d {
-            return Number::Not;
-        }
-        if (most - d) / 10 < v {
-            return Number::Not;
-        }
-        v = v * 10 + d;
-        i += 1;
     }
-    Number::Value(v)
+    Some(value)
+}
+
+// Where b stands first in s, if it does.
+fn place_of(b: u8, s: &[u8]) -> Option<usize>
+    ensures { result ≡ position (λ x. x == b) s.now }
+{
+    s.iter().position(|x| *x == b)
 }
 
 // Where b stands first in s from a place on, or s's length.
 pub fn place_from(b: u8, s: &[u8], from: usize) -> usize
     ensures { result ≡ place_from b s.now from }
 {
-    let mut i = from;
-    while i < s.len() {
-        if s[i] == b {
-            return i;
-        }
-        i += 1;
+    match s.get(from..) {
+        Some(rest) => from + place_of(b, rest).unwrap_or(rest.len()),
+        None => from,
     }
-    i
 }
 
 // How many fields a line of at most `longest` bytes has; a longer one has none.
@@ -82,13 +63,7 @@ pub fn field_count(s: &[u8], longest: usize) -> usize
     if longest < s.len() {
         return 0;
     }
-    let mut n = 1;
-    let mut i = 0;
-    while i < s.len() {
-        n += tabs(s[i]);
-        i += 1;
-    }
-    n
+    s.iter().filter(|b| **b == b'\t').count() + 1
 }
 
 // Where field k begins, or s's length.
@@ -96,15 +71,12 @@ fn start(s: &[u8], k: usize) -> usize
     ensures { (result ≤ length s.now) × (drop result s.now ≡ behind_tabs k s.now) }
 {
     let mut at = 0;
-    let mut j = 0;
-    while j < k {
-        let i = place_from(b'\t', s, at);
-        if i < s.len() {
-            at = i + 1;
-        } else {
+    for _ in 0..k {
+        let tab = place_from(b'\t', s, at);
+        if s.len() <= tab {
             return s.len();
         }
-        j += 1;
+        at = tab + 1;
     }
     at
 }
@@ -122,20 +94,11 @@ pub fn field_at(s: &[u8], k: usize) -> &[u8]
 pub fn same(s: &[u8], t: &[u8]) -> bool
     ensures { result ≡ parts.same s.now t.now }
 {
-    if s.len() != t.len() {
-        return false;
-    }
-    let mut i = 0;
-    while i < s.len() {
-        if s[i] != t[i] {
-            return false;
-        }
-        i += 1;
-    }
-    true
+    s == t
 }
 
-// Puts one byte into out at a place; answers the place behind it.
+// Puts one byte into out at a place; answers the place behind it. An output and a place are two arguments of each writer, and no struct,
+// since theorems speak of the writers by these arguments.
 pub fn put_byte(b: u8, out: &mut [u8], at: usize) -> usize
     ensures { Put out.old at (b ∷ []) result out.new }
 {
@@ -150,21 +113,12 @@ pub fn put_byte(b: u8, out: &mut [u8], at: usize) -> usize
 pub fn put_bytes(s: &[u8], out: &mut [u8], at: usize) -> usize
     ensures { Put out.old at s.now result out.new }
 {
-    let mut next = at;
-    let mut i = 0;
-    while i < s.len() {
-        next = put_byte(s[i], out, next);
-        i += 1;
+    if out.len() <= at {
+        return at;
     }
-    next
-}
-
-// The byte of a digit.
-fn glyph(d: u64) -> u8
-    requires { d < 10 }
-    ensures { result ≡ 48 + d }
-{
-    48 + d as u8
+    let n = s.len().min(out.len() - at);
+    out[at..at + n].copy_from_slice(&s[..n]);
+    at + n
 }
 
 // Puts n's digits into out from a place on; answers the place behind them.
@@ -174,12 +128,14 @@ pub fn put_number(n: u64, out: &mut [u8], at: usize) -> usize
     let mut digits = [0u8; 20];
     let mut i = 20;
     let mut rest = n;
+    // A recursion on n / 10 and a `for` over the places from the last to the first were tried: with either, readrun takes fewer lines a
+    // second than its goal asks.
     while 10 <= rest {
         i -= 1;
-        digits[i] = glyph(rest % 10);
-        rest = rest / 10;
+        digits[i] = b'0' + (rest % 10) as u8;
+        rest /= 10;
     }
     i -= 1;
-    digits[i] = glyph(rest);
+    digits[i] = b'0' + rest as u8;
     put_bytes(&digits[i..], out, at)
 }

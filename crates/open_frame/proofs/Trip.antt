@@ -1,5 +1,6 @@
 -- Reading undoes writing, since each field of the layout is read where it was written; and writing undoes reading, but for the
 -- bytes that are not carried, since the fields read fill all the others. Assumes nothing.
+use Rattle.std.specs.Prelude.{Err, Ok}
 use mathlib.Core.Path.{◌≡◌, refl, ◌∙◌, ap, sym, subst}
 use mathlib.Core.Bool.{true, ◌&&◌}
 use mathlib.Core.List.{List, [], ◌∷◌, ◌++◌}
@@ -15,7 +16,6 @@ use Rattle.refusals.proofs.Frames.{by_none, passed}
 use Rattle.refusals.specs.declared.Refusal.{Refusal}
 use Rattle.open_frame.specs.Open.{byte0, byte1, open_bytes, head_of, frame_of, not_carried, cleared, head_listed, Widths, typed, read_open}
 use Rattle.open_frame.specs.declared.OpenFrame.{OpenFrame}
-use Rattle.open_frame.specs.declared.OpenRead.TheVariants.{Frame, Refused}
 use Rattle.open_frame.proofs.Bytes.{Split, split, byte0_back, byte1_back}
 use Rattle.open_frame.proofs.Fields.{Listed, listed_is}
 
@@ -42,7 +42,7 @@ frame_back f ok w =
     }
 
 -- ROUND TRIP 1: reading what was written
-pub read_written : (f : OpenFrame) → head_listed f.head ≡ true → Widths f → read_open (open_bytes f) ≡ Frame f
+pub read_written : (f : OpenFrame) → head_listed f.head ≡ true → Widths f → read_open (open_bytes f) ≡ Ok f
 unfolding read_open
 read_written f ok w =
     let h = f.head in
@@ -50,7 +50,7 @@ read_written f ok w =
     let same = frame_back f ok w in
     let kind : byte0 h.initiator h.protocol % 256 % 16 ≡ 1 = omega (arith, l.initiator, l.protocol) in
     let fine = and_true (eq-eqb (byte0 h.initiator h.protocol % 256 % 16) 1 kind) (ap (λ (g : OpenFrame). head_listed g.head) same ∙ ok) in
-    sym (by_none Refused (Frame (frame_of (open_bytes f))) {s = true} refl fine) ∙ ap Frame same
+    sym (by_none Err (Ok (frame_of (open_bytes f))) {s = true} refl fine) ∙ ap Ok same
 
 -- what a reader's frame says of the buffer
 pub record Found (s : List ℕ) (f : OpenFrame) : Type 0 where
@@ -59,13 +59,13 @@ pub record Found (s : List ℕ) (f : OpenFrame) : Type 0 where
   pub listed : head_listed (head_of s) ≡ true
   pub same : frame_of s ≡ f
 
-apart : (f : OpenFrame) (k : Refusal) → Refused k ≡ Frame f → ⊥
+apart : (f : OpenFrame) (k : Refusal) → Err k ≡ Ok f → ⊥
 apart f k e = let z : ◌≡◌ {A = ℕ} 0 1 = cc in omega arith
 
-pub found : (s : List ℕ) (f : OpenFrame) → read_open s ≡ Frame f → Found s f
+pub found : (s : List ℕ) (f : OpenFrame) → read_open s ≡ Ok f → Found s f
 unfolding read_open
 found s f e =
-    let p = passed Refused (Frame (frame_of s)) (Frame f) (apart f) (eqb (length s) 28) (typed s && head_listed (head_of s)) e in
+    let p = passed Err (Ok (frame_of s)) (Ok f) (apart f) (eqb (length s) 28) (typed s && head_listed (head_of s)) e in
     record {
       long = eqb-true (length s) 28 p.0;
       kind = eqb-true (get_or s 0 0 % 16) 1 (and_left (typed s) _ p.1.0);
@@ -74,7 +74,7 @@ found s f e =
     }
 
 -- a frame that was read has fields of OPEN
-pub read_listed : (s : List ℕ) (f : OpenFrame) → read_open s ≡ Frame f → Listed f.head
+pub read_listed : (s : List ℕ) (f : OpenFrame) → read_open s ≡ Ok f → Listed f.head
 read_listed s f e = let r = found s f e in listed_is f.head (subst (λ (g : OpenFrame). head_listed g.head ≡ true) r.same r.listed)
 
 abbrev parts : List ℕ → List ℕ
@@ -103,7 +103,7 @@ bytes_back s small l k =
     λ i. e0 i ∷ e1 i ∷ (e2 i ++ (e4 i ++ (e12 i ++ (0 ∷ e21 i ∷ (e22 i ++ (0 ∷ 0 ∷ 0 ∷ 0 ∷ []))))))
 
 -- ROUND TRIP 2: writing what was read
-pub written_read : (s : List ℕ) (f : OpenFrame) → ((i : ℕ) → get_or s i 0 < 256) → read_open s ≡ Frame f → open_bytes f ≡ cleared not_carried s
+pub written_read : (s : List ℕ) (f : OpenFrame) → ((i : ℕ) → get_or s i 0 < 256) → read_open s ≡ Ok f → open_bytes f ≡ cleared not_carried s
 written_read s f small e =
     let r = found s f e in
     ap open_bytes (sym r.same) ∙ bytes_back s small r.long r.kind ∙ parts_are s r.long

@@ -1,13 +1,12 @@
 -- Document 01, 'OPEN address frame, 28 bytes, big-endian': where each field stands, and what a reader and a writer answer.
 -- Assumes nothing.
-use Rattle.std.specs.Prelude.{ℕ, ◌+◌, ◌*◌, ◌/◌, ◌%◌, ◌^◌, ◌<◌, Bool, ◌&&◌, List, [], ◌∷◌, length, get_or, set, eqb, ltb, leb}
+use Rattle.refusals.specs.declared.Refusal.{Refusal}
+use Rattle.std.specs.Prelude.{ℕ, ◌+◌, ◌*◌, ◌/◌, ◌%◌, ◌^◌, ◌<◌, Bool, ◌&&◌, List, [], ◌∷◌, length, get_or, set, eqb, ltb, leb, Err, Ok, Result}
 use Rattle.wire.specs.Be.{be_at}
 use Rattle.wire.specs.Fields.{Field, ◌bytes◌, lay_bytes}
 use Rattle.refusals.specs.Causes.{Cause, refuse, buffer_causes}
 use Rattle.open_frame.specs.declared.Head.{Head}
 use Rattle.open_frame.specs.declared.OpenFrame.{OpenFrame}
-use Rattle.open_frame.specs.declared.OpenRead.{OpenRead}
-use Rattle.open_frame.specs.declared.OpenRead.TheVariants.{Frame, Refused}
 
 -- 01 OPEN.2: Byte 0: bit 7 initiator, bits 6 to 4 protocol (0 SMP, 1 SSP, 2 STP), bits 3 to 0 type 1.
 abbrev pub byte0 : ℕ → ℕ → ℕ
@@ -83,5 +82,5 @@ read_causes s = buffer_causes (eqb (length s) 28) (typed s && head_listed (head_
 abbrev pub write_causes : OpenFrame → List ℕ → List Cause
 write_causes f out = buffer_causes (eqb (length out) 28) (head_listed f.head)
 
-unfoldable pub read_open : List ℕ → OpenRead
-read_open s = refuse Refused (read_causes s) (Frame (frame_of s))
+unfoldable pub read_open : List ℕ → Result OpenFrame Refusal
+read_open s = refuse Err (read_causes s) (Ok (frame_of s))

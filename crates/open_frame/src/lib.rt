@@ -8,11 +8,11 @@ ghost use Rattle.open_frame.specs.Open as opens;
 ghost use Rattle.open_frame.specs.Wait.{wait_value};
 ghost use Rattle.open_frame.specs.Priority.{higher_than};
 
-use refusals::{Refusal, Written};
+use refusals::Refusal;
 
-// The fields that a request for a connection has too.
+// The fields that a request for a connection has too. They are numbers and no enums, since C and a frame's bytes can hold any.
 #[repr(C)]
-#[derive(Clone, Copy)]
+#[derive(Clone, Copy, Default)]
 pub struct Head {
     // 1 for an initiator, else 0.
     pub initiator: u8,
@@ -32,26 +32,20 @@ pub struct Head {
 // 01 FORM.7: Two tuple structs for AWT and PBC, the source's own counters, carried by requests and OPEN frames.
 // How often the pathway was blocked.
 #[repr(C)]
-#[derive(Clone, Copy)]
+#[derive(Clone, Copy, Default)]
 pub struct Pbc(pub u8);
 
 // How long the request has waited, as a wait value.
 #[repr(C)]
-#[derive(Clone, Copy)]
+#[derive(Clone, Copy, Default)]
 pub struct Awt(pub u16);
 
 #[repr(C)]
-#[derive(Clone, Copy)]
+#[derive(Clone, Copy, Default)]
 pub struct OpenFrame {
     pub head: Head,
     pub pbc: Pbc,
     pub awt: Awt,
-}
-
-#[derive(Clone, Copy)]
-pub enum OpenRead {
-    Frame(OpenFrame),
-    Refused(Refusal),
 }
 
 // 01 FORM.5: Shifts and masks split and join the OPEN frame's first bytes, with their round trip proved.
@@ -122,21 +116,21 @@ fn head_of(s: &[u8]) -> Head
 }
 
 // The frame that s holds.
-pub fn read_open(s: &[u8]) -> OpenRead
+pub fn read_open(s: &[u8]) -> Result<OpenFrame, Refusal>
     ensures { result ≡ read_open s.now }
 {
     if s.len() != 28 {
-        return OpenRead::Refused(Refusal::Length);
+        return Err(Refusal::Length);
     }
     let head = head_of(s);
     if (low(s[0]) == 1) & head_listed(head) {
-        OpenRead::Frame(OpenFrame {
+        Ok(OpenFrame {
             head,
             pbc: Pbc(s[21]),
             awt: Awt(wire::get_be(s, 22, 2) as u16),
         })
     } else {
-        OpenRead::Refused(Refusal::Unlisted)
+        Err(Refusal::Unlisted)
     }
 }
 
@@ -156,18 +150,18 @@ fn put_open(f: OpenFrame, out: &mut [u8])
 }
 
 // The 28 bytes of the frame; a refusal leaves out as it was.
-pub fn write_open(f: OpenFrame, out: &mut [u8]) -> Written
+pub fn write_open(f: OpenFrame, out: &mut [u8]) -> Result<(), Refusal>
     ensures { Wrote (write_causes f out.old) (open_bytes f) out.old result out.new }
 {
     if out.len() != 28 {
-        return Written::Refused(Refusal::Length);
+        return Err(Refusal::Length);
     }
     let head = f.head;
     if head_listed(head) {
         put_open(f, out);
-        Written::Done
+        Ok(())
     } else {
-        Written::Refused(Refusal::Unlisted)
+        Err(Refusal::Unlisted)
     }
 }
 

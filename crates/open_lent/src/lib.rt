@@ -8,7 +8,7 @@ ghost use Rattle.open_lent.specs.Lent.{frame_of, is_clear};
 use open_frame::{Awt, Head, OpenFrame, Pbc};
 
 #[repr(C)]
-#[derive(Clone, Copy)]
+#[derive(Clone, Copy, Default, PartialEq)]
 pub struct Open {
     pub destination: u64,
     pub source: u64,
@@ -29,41 +29,45 @@ pub struct Open {
 }
 
 // The frame that the numbers say, whatever the zero members are.
-pub fn frame_of(o: Open) -> OpenFrame
-    ensures { result ≡ frame_of o }
-{
-    OpenFrame {
-        head: Head {
-            initiator: o.initiator,
-            protocol: o.protocol,
-            features: o.features as u16,
-            rate: o.rate as u16,
-            tag: o.tag,
-            destination: o.destination,
-            source: o.source,
-        },
-        pbc: Pbc(o.pbc),
-        awt: Awt(o.awt),
+impl From<Open> for OpenFrame {
+    ghost from_gives = { λ o f. f ≡ frame_of o };
+
+    fn from(o: Open) -> OpenFrame {
+        OpenFrame {
+            head: Head {
+                initiator: o.initiator,
+                protocol: o.protocol,
+                features: o.features as u16,
+                rate: o.rate as u16,
+                tag: o.tag,
+                destination: o.destination,
+                source: o.source,
+            },
+            pbc: Pbc(o.pbc),
+            awt: Awt(o.awt),
+        }
     }
 }
 
 // A frame as C sees it. A listed frame's features and rate lose nothing.
-pub fn shown(f: OpenFrame) -> Open
-    ensures { result ≡ lent.shown f }
-{
-    Open {
-        destination: f.head.destination,
-        source: f.head.source,
-        zero4: 0,
-        tag: f.head.tag,
-        awt: f.awt.0,
-        zero2: 0,
-        initiator: f.head.initiator,
-        protocol: f.head.protocol,
-        features: (f.head.features % 256) as u8,
-        rate: (f.head.rate % 256) as u8,
-        pbc: f.pbc.0,
-        zero1: 0,
+impl From<OpenFrame> for Open {
+    ghost from_gives = { λ f o. o ≡ lent.shown f };
+
+    fn from(f: OpenFrame) -> Open {
+        Open {
+            destination: f.head.destination,
+            source: f.head.source,
+            zero4: 0,
+            tag: f.head.tag,
+            awt: f.awt.0,
+            zero2: 0,
+            initiator: f.head.initiator,
+            protocol: f.head.protocol,
+            features: (f.head.features % 256) as u8,
+            rate: (f.head.rate % 256) as u8,
+            pbc: f.pbc.0,
+            zero1: 0,
+        }
     }
 }
 
@@ -71,20 +75,7 @@ pub fn shown(f: OpenFrame) -> Open
 pub fn clear() -> Open
     ensures { result ≡ lent.clear }
 {
-    Open {
-        destination: 0,
-        source: 0,
-        zero4: 0,
-        tag: 0,
-        awt: 0,
-        zero2: 0,
-        initiator: 0,
-        protocol: 0,
-        features: 0,
-        rate: 0,
-        pbc: 0,
-        zero1: 0,
-    }
+    Open::default()
 }
 
 // Whether every zero member is 0.
@@ -98,12 +89,5 @@ pub fn formed(o: Open) -> bool
 pub fn is_clear(o: Open) -> bool
     ensures { result ≡ is_clear o }
 {
-    (o.destination == 0)
-        & ((o.source == 0)
-            & ((o.tag == 0)
-                & ((o.awt == 0)
-                    & ((o.initiator == 0)
-                        & ((o.protocol == 0)
-                            & ((o.features == 0)
-                                & ((o.rate == 0) & ((o.pbc == 0) & formed(o)))))))))
+    o == clear()
 }

@@ -1,5 +1,6 @@
 -- A call leaves its entry at its answer's slot, and of the others at most a timer that changed; a setup leaves all zeros. So what an accepted
 -- setup leaves keeps the rules: no phy names a request, and every record is free. Assumes nothing.
+use Rattle.std.specs.Prelude.{Ok}
 use Prim.Native.Nat.{ℕ, ◌<◌}
 use mathlib.Core.Path.{◌≡◌, refl, sym, ap, subst, ◌∙◌}
 use mathlib.Core.Bool.{Bool, true, false, cond}
@@ -60,11 +61,11 @@ blank_kept count loss i h =
       present = inl refl;
     }
 
-pub setup_kept : (count loss : ℕ) (l : List Request) → length l ≡ 32 → InRange count loss → Kept (fresh count loss) (left_of l (unnamed (fresh count loss) Taken true))
+pub setup_kept : (count loss : ℕ) (l : List Request) → length l ≡ 32 → InRange count loss → Kept (fresh count loss) (left_of l (unnamed (fresh count loss) (Ok Taken) true))
 setup_kept count loss l len range =
     record {
       setup = range;
       phys = λ k h. subst (λ (f : Phy). PhyKept count f k) (sym (get_or-replicate 8 k disabled_phy absent_phy h)) (off_kept count k);
-      requests = λ i h. subst (λ (r : Request). RequestKept (fresh count loss) r i) (sym (left_at l (unnamed (fresh count loss) Taken true) i len h)) (blank_kept count loss i h);
-      apart = λ i j m n there other. absurd (there (ap (λ (r : Request). r.stage) (left_at l (unnamed (fresh count loss) Taken true) i len (omega arith))));
+      requests = λ i h. subst (λ (r : Request). RequestKept (fresh count loss) r i) (sym (left_at l (unnamed (fresh count loss) (Ok Taken) true) i len h)) (blank_kept count loss i h);
+      apart = λ i j m n there other. absurd (there (ap (λ (r : Request). r.stage) (left_at l (unnamed (fresh count loss) (Ok Taken) true) i len (omega arith))));
     }

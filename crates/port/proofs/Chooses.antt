@@ -1,4 +1,5 @@
 -- A choose that is not refused answers its pick: each of its steps has a word of its own, and names what was picked. Assumes nothing.
+use Rattle.std.specs.Prelude.{Ok}
 use Prim.Native.Nat.{ℕ}
 use mathlib.Core.Path.{◌≡◌, refl, sym}
 use mathlib.Core.Bool.{true, false, cond}
@@ -34,17 +35,17 @@ module _ (p : Port) (r : Request) (b : Pick) (now : ℕ) where
       (λ f. by_test (λ (d : Done). Tells b d.answer) (eqb b.step 3) (λ g. taken (closing p r b now) refl refl (sym (third e f g)))
       (λ g. record { word = sym (none e f g); slot = λ n. absurd (n refl); phy = λ n. absurd (n refl) })))
     where
-      first : eqb b.step 1 ≡ true → word_for b.step ≡ Send
-      first e = λ i. cond (e i) Send (cond (eqb b.step 2) Open (cond (eqb b.step 3) Close Nothing))
+      first : eqb b.step 1 ≡ true → word_for b.step ≡ Ok Send
+      first e = λ i. cond (e i) (Ok Send) (cond (eqb b.step 2) (Ok Open) (cond (eqb b.step 3) (Ok Close) (Ok Nothing)))
 
-      second : eqb b.step 1 ≡ false → eqb b.step 2 ≡ true → word_for b.step ≡ Open
-      second e f = λ i. cond (e i) Send (cond (f i) Open (cond (eqb b.step 3) Close Nothing))
+      second : eqb b.step 1 ≡ false → eqb b.step 2 ≡ true → word_for b.step ≡ Ok Open
+      second e f = λ i. cond (e i) (Ok Send) (cond (f i) (Ok Open) (cond (eqb b.step 3) (Ok Close) (Ok Nothing)))
 
-      third : eqb b.step 1 ≡ false → eqb b.step 2 ≡ false → eqb b.step 3 ≡ true → word_for b.step ≡ Close
-      third e f g = λ i. cond (e i) Send (cond (f i) Open (cond (g i) Close Nothing))
+      third : eqb b.step 1 ≡ false → eqb b.step 2 ≡ false → eqb b.step 3 ≡ true → word_for b.step ≡ Ok Close
+      third e f g = λ i. cond (e i) (Ok Send) (cond (f i) (Ok Open) (cond (g i) (Ok Close) (Ok Nothing)))
 
-      none : eqb b.step 1 ≡ false → eqb b.step 2 ≡ false → eqb b.step 3 ≡ false → word_for b.step ≡ Nothing
-      none e f g = λ i. cond (e i) Send (cond (f i) Open (cond (g i) Close Nothing))
+      none : eqb b.step 1 ≡ false → eqb b.step 2 ≡ false → eqb b.step 3 ≡ false → word_for b.step ≡ Ok Nothing
+      none e f g = λ i. cond (e i) (Ok Send) (cond (f i) (Ok Open) (cond (g i) (Ok Close) (Ok Nothing)))
 
 pub choose_tells : (s : State) (x : Time) → is_refused (stepped_by (choose x) s).answer.word ≡ false → Tells (pick_at s.list s.port x.now) (stepped_by (choose x) s).answer
 unfolding done_of choose_core

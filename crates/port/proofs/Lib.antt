@@ -1,5 +1,4 @@
 -- The calls over the lent list: what they share, and what the scans find.
-mod Turns
 mod Still
 mod Steps
 pub mod Scanned

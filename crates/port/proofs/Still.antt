@@ -1,5 +1,6 @@
 -- A call leaves the records before and behind its walk as they were: unless it changes all, it stores one record, at the place that
 -- its answer names, and no timer. Assumes nothing.
+use Rattle.std.specs.Prelude.{Option, Some, None, is_some}
 use Prim.Native.Nat.{ℕ, suc, ◌<◌, ◌≤◌}
 use mathlib.Core.Path.{◌≡◌, refl, sym}
 use mathlib.Core.Bool.{Bool, true, false, not, cond, ◌&&◌, ◌||◌}
@@ -9,18 +10,19 @@ use borrow.Author.Tests.{ne_eqb}
 use Rattle.laws.proofs.Bools.{never}
 use Rattle.port_parts.specs.declared.Request.{Request}
 use Rattle.port_rows.specs.declared.Done.{Done}
-use Rattle.port_rows.specs.Records.{left_step}
+use Rattle.port_rows.specs.Records.{spread, left_step}
+use Rattle.port_rows.specs.declared.Loss.{Loss}
 use Rattle.port.specs.Walk.{changes_all, walk_from, walk_to}
 
 -- a record that isn't the one stored, where nothing else changes
-unchanged : (cleared change same : Bool) (b e t r : Request) (rest : Bool) → cleared || change ≡ false → same ≡ false → cond cleared b (cond same e (cond (change && rest) t r)) ≡ r
-unchanged true change same b e t r rest p q = absurd (never (sym p))
-unchanged false true same b e t r rest p q = absurd (never (sym p))
-unchanged false false true b e t r rest p q = absurd (never (sym q))
-unchanged false false false b e t r rest p q = refl
+unchanged : (cleared same : Bool) (b e r : Request) (x : Option Loss) → cleared || is_some x ≡ false → same ≡ false → cond cleared b (cond same e (spread x r)) ≡ r
+unchanged true same b e r x p q = absurd (never (sym p))
+unchanged false same b e r (Some x) p q = absurd (never (sym p))
+unchanged false true b e r None p q = absurd (never (sym q))
+unchanged false false b e r None p q = refl
 
 elsewhere : (d : Done) (r : Request) (i : ℕ) → changes_all d ≡ false → (i ≡ d.answer.slot → ⊥) → left_step r i d ≡ r
-elsewhere d r i p off = unchanged d.cleared d.loss.change (eqb i d.answer.slot) _ _ _ r _ p (ne_eqb i d.answer.slot off)
+elsewhere d r i p off = unchanged d.cleared (eqb i d.answer.slot) _ _ r d.loss p (ne_eqb i d.answer.slot off)
 
 -- the two ends of a walk, of which t says whether s is a place of the list
 abbrev from_by : Bool → Bool → ℕ → ℕ

@@ -1,11 +1,12 @@
 -- Document 01, 'Port': calls one after another, and the history of calls and answers that they leave. Assumes nothing.
-use Rattle.std.specs.Prelude.{ℕ, Bool, true, false, cond, List, [], ◌∷◌, ◌++◌}
+use Rattle.refusals.specs.declared.Refusal.{Refusal}
+use Rattle.std.specs.Prelude.{ℕ, Bool, true, false, cond, List, [], ◌∷◌, ◌++◌, Err, Ok, Result}
 use Rattle.port_parts.specs.declared.Port.{Port}
 use Rattle.port_parts.specs.declared.Request.{Request}
 use Rattle.port_rows.specs.declared.Answer.{Answer}
 use Rattle.port_rows.specs.declared.Done.{Done}
 use Rattle.port_rows.specs.declared.Word.{Word}
-use Rattle.port_rows.specs.declared.Word.TheVariants.{Taken, Submitted, Nothing, Send, Open, Close, StopArb, Retried, Waiting, CancelAcknowledged, Ended, NexusLoss, ConnectionLost, Status, Refused}
+use Rattle.port_rows.specs.declared.Word.TheVariants.{Taken, Submitted, Nothing, Send, Open, Close, StopArb, Retried, Waiting, CancelAcknowledged, Ended, NexusLoss, ConnectionLost, Status}
 use Rattle.port_rows.specs.declared.Submission.{Submission}
 use Rattle.port_rows.specs.declared.Withdrawn.{Withdrawn}
 use Rattle.port_rows.specs.declared.Confirmed.{Confirmed}
@@ -65,40 +66,40 @@ Does c s r after = Called s.list (done_of c s) (short_of c s) r after
 abbrev pub stepped_by : Call → State → Stepped
 stepped_by c s = on32 s.list (answered (done_of c s)) (short_of c s)
 
-abbrev pub is_refused : Word → Bool
-is_refused Taken = false
-is_refused Submitted = false
-is_refused Nothing = false
-is_refused Send = false
-is_refused Open = false
-is_refused Close = false
-is_refused StopArb = false
-is_refused Retried = false
-is_refused Waiting = false
-is_refused CancelAcknowledged = false
-is_refused (Ended why) = false
-is_refused NexusLoss = false
-is_refused ConnectionLost = false
-is_refused (Status byte) = false
-is_refused (Refused k) = true
+abbrev pub is_refused : Result Word Refusal → Bool
+is_refused (Ok Taken) = false
+is_refused (Ok Submitted) = false
+is_refused (Ok Nothing) = false
+is_refused (Ok Send) = false
+is_refused (Ok Open) = false
+is_refused (Ok Close) = false
+is_refused (Ok StopArb) = false
+is_refused (Ok Retried) = false
+is_refused (Ok Waiting) = false
+is_refused (Ok CancelAcknowledged) = false
+is_refused (Ok (Ended why)) = false
+is_refused (Ok NexusLoss) = false
+is_refused (Ok ConnectionLost) = false
+is_refused (Ok (Status byte)) = false
+is_refused (Err k) = true
 
 -- the last word on a request
-abbrev pub is_last : Word → Bool
-is_last Taken = false
-is_last Submitted = false
-is_last Nothing = false
-is_last Send = false
-is_last Open = false
-is_last Close = false
-is_last StopArb = false
-is_last Retried = false
-is_last Waiting = false
-is_last CancelAcknowledged = true
-is_last (Ended why) = true
-is_last NexusLoss = true
-is_last ConnectionLost = true
-is_last (Status byte) = true
-is_last (Refused k) = false
+abbrev pub is_last : Result Word Refusal → Bool
+is_last (Ok Taken) = false
+is_last (Ok Submitted) = false
+is_last (Ok Nothing) = false
+is_last (Ok Send) = false
+is_last (Ok Open) = false
+is_last (Ok Close) = false
+is_last (Ok StopArb) = false
+is_last (Ok Retried) = false
+is_last (Ok Waiting) = false
+is_last (Ok CancelAcknowledged) = true
+is_last (Ok (Ended why)) = true
+is_last (Ok NexusLoss) = true
+is_last (Ok ConnectionLost) = true
+is_last (Ok (Status byte)) = true
+is_last (Err k) = false
 
 -- what a call leaves; a refused setup gives no port, and its caller keeps the one that he has
 abbrev pub leave : Call → State → State

@@ -1,10 +1,10 @@
 -- Which records a call may change: all if the list is cleared or a loss timer changes, else the one that its answer names. Assumes
 -- nothing.
-use Rattle.std.specs.Prelude.{ℕ, suc, Bool, cond, ◌||◌, ltb}
+use Rattle.std.specs.Prelude.{ℕ, suc, Bool, cond, ◌||◌, ltb, is_some}
 use Rattle.port_rows.specs.declared.Done.{Done}
 
 abbrev pub changes_all : Done → Bool
-changes_all d = d.cleared || d.loss.change
+changes_all d = d.cleared || is_some d.loss
 
 -- place s of the list, its end if there is no such place
 abbrev pub place_or32 : ℕ → ℕ

@@ -13,21 +13,22 @@ use refusals::Refusal;
 fn answered(d: Done) -> Stepped
     ensures { result ≡ answered d }
 {
-    let answer = d.answer;
-    let port = d.port;
-    Stepped { answer, port }
+    Stepped {
+        answer: d.answer,
+        port: d.port,
+    }
 }
 
 // A changed loss timer, in every SSP request to its destination.
-fn spread(x: Loss, r: Request) -> Request
+fn spread(x: Option<Loss>, r: Request) -> Request
     ensures { result ≡ spread x r }
 {
+    let Some(t) = x else {
+        return r;
+    };
     let h = r.head;
-    if x.change
-        & (!(r.stage == request_stage::FREE)
-            & ((h.protocol == SSP) & (h.destination == x.destination)))
-    {
-        return port_core::timed(r, x.timer);
+    if (r.stage != request_stage::FREE) & ((h.protocol == SSP) & (h.destination == t.destination)) {
+        return port_core::timed(r, t.timer);
     }
     r
 }
@@ -42,8 +43,7 @@ fn left_step(r: Request, i: usize, d: Done) -> Request
     if i == d.answer.slot as usize {
         return d.entry;
     }
-    let loss = d.loss;
-    spread(loss, r)
+    spread(d.loss, r)
 }
 
 // The first record that a call may change.
@@ -51,11 +51,10 @@ fn left_step(r: Request, i: usize, d: Done) -> Request
 fn walk_from(d: Done) -> usize
     ensures { result ≡ walk_from d }
 {
-    if d.cleared | d.loss.change {
+    if d.cleared | d.loss.is_some() {
         return 0;
     }
-    let i = d.answer.slot as usize;
-    if i < 32 { i } else { 32 }
+    (d.answer.slot as usize).min(32)
 }
 
 // The place behind the last record that a call may change.
@@ -63,24 +62,20 @@ fn walk_from(d: Done) -> usize
 fn walk_to(d: Done) -> usize
     ensures { result ≡ walk_to d }
 {
-    if d.cleared | d.loss.change {
+    if d.cleared | d.loss.is_some() {
         return 32;
     }
-    let i = d.answer.slot as usize;
-    if i < 32 { i + 1 } else { 32 }
+    (d.answer.slot as usize + 1).min(32)
 }
 
-// Every record as the call leaves it, and its answer.
+// Every record as the call leaves it, and its answer. A slice and its places by number: of a `&mut [Request; 32]` made of the slice, and
+// behind `iter_mut`, the proof knows nothing of the records that stand there afterwards.
 pub(crate) fn left(list: &mut [Request], d: Done) -> Stepped
     requires { length list.old ≡ 32 }
     ensures { (result ≡ answered d) × (list.new ≡ left_of list.old d) }
 {
-    let mut i = walk_from(d);
-    let n = walk_to(d);
-    while i < n {
-        let r = left_step(list[i], i, d);
-        list[i] = r;
-        i += 1;
+    for i in walk_from(d)..walk_to(d) {
+        list[i] = left_step(list[i], i, d);
     }
     answered(d)
 }
@@ -92,7 +87,7 @@ pub(crate) fn short(p: Port) -> Stepped
     answered(port_core::refused_by(p, Refusal::Length))
 }
 
-// Setup is lent no port; what it is given stands here for the law of the ten calls alone, and in `setup_ask` too.
+// Setup is lent no port.
 pub(crate) fn short_setup(count: u8) -> Stepped
     ensures { result ≡ short_setup count }
 {

@@ -1,7 +1,6 @@
 // Document 01, 'Port': choose, by the pick that was found.
-ghost use Rattle.std.specs.Prelude.{◌≡◌, ◌-◌};
+ghost use Rattle.std.specs.Prelude.{◌≡◌};
 ghost use Rattle.refusals.specs.Causes.{refuse};
-ghost use Rattle.refusals.specs.declared.Checked.{Checked};
 ghost use Rattle.port_rows.specs.Calls.{choose_causes, choose_core};
 ghost use Rattle.port_rows.specs.Calls as calls;
 
@@ -9,25 +8,18 @@ use crate::{answers, ports, records};
 use open_frame::OpenFrame;
 use port_parts::{CLOSED, NO_SLOT, Pick, Port, Request, SET, phy_stage, request_stage, step};
 use port_rows::{Answer, Done, Word};
-use refusals::{Checked, Refusal};
+use refusals::Refusal;
 
-fn choose_checked(p: Port, kept: bool, now: u64) -> Checked
-    ensures { result ≡ refuse Checked.Refused (choose_causes p kept now) Checked.Passed }
+fn choose_checked(p: Port, kept: bool, now: u64) -> Result<(), Refusal>
+    ensures { result ≡ refuse Err (choose_causes p kept now) (Ok tt) }
 {
     if !kept {
-        return Checked::Refused(Refusal::Rules);
+        return Err(Refusal::Rules);
     }
     if now < p.last {
-        return Checked::Refused(Refusal::Past);
+        return Err(Refusal::Past);
     }
-    Checked::Passed
-}
-
-// What lies between two times.
-fn elapsed(since: u64, now: u64) -> u64
-    ensures { result ≡ now - since }
-{
-    if now < since { 0 } else { now - since }
+    Ok(())
 }
 
 fn sent(p: Port, r: Request, b: Pick, now: u64) -> Done
@@ -36,25 +28,24 @@ fn sent(p: Port, r: Request, b: Pick, now: u64) -> Done
     let f = ports::phy_at(p, b.phy);
     let g = ports::staged_phy(phy_stage::SENDING, b.slot, f);
     let q = ports::with_phy(p, b.phy, g, now);
-    let answer = answers::said(Word::Send, b.slot, b.phy, r);
+    let answer = answers::said(Ok(Word::Send), b.slot, b.phy, r);
     let entry = records::placed(r, request_stage::IN_PROGRESS, b.phy);
-    let loss = answers::no_loss();
-    answers::stored(q, answer, entry, loss)
+    answers::stored(q, answer, entry, None)
 }
 
 // An Open, with the frame that the record holds.
 fn asking(slot: u8, phy: u8, r: Request) -> Answer
     ensures { result ≡ calls.asking slot phy r }
 {
-    let head = r.head;
-    let pbc = r.pbc;
-    let awt = r.awt;
-    let frame = OpenFrame { head, pbc, awt };
     Answer {
-        word: Word::Open,
+        word: Ok(Word::Open),
         slot,
         phy,
-        frame,
+        frame: OpenFrame {
+            head: r.head,
+            pbc: r.pbc,
+            awt: r.awt,
+        },
     }
 }
 
@@ -63,8 +54,8 @@ fn asked(r: Request, k: u8, now: u64) -> Request
     ensures { result ≡ calls.asked r k now }
 {
     let stamp = port_parts::stamped(now);
-    let first = answers::stamp_if(r.first.set == SET, r.first, stamp);
-    let awt = open_frame::wait_value(elapsed(first.at, now));
+    let first = if r.first.set == SET { r.first } else { stamp };
+    let awt = open_frame::wait_value(now.saturating_sub(first.at));
     let on = records::placed(r, request_stage::IN_PROGRESS, k);
     records::waited(on, r.pbc, awt, r.retry, first)
 }
@@ -76,8 +67,7 @@ fn opening(p: Port, r: Request, b: Pick, now: u64) -> Done
     let q = ports::with_phy(p, b.phy, g, now);
     let entry = asked(r, b.phy, now);
     let answer = asking(b.slot, b.phy, entry);
-    let loss = answers::no_loss();
-    answers::stored(q, answer, entry, loss)
+    answers::stored(q, answer, entry, None)
 }
 
 fn closing(p: Port, r: Request, b: Pick, now: u64) -> Done
@@ -86,10 +76,9 @@ fn closing(p: Port, r: Request, b: Pick, now: u64) -> Done
     let f = ports::phy_at(p, b.phy);
     let g = ports::staged_phy(phy_stage::CLOSING, NO_SLOT, f);
     let q = ports::with_phy(p, b.phy, g, now);
-    let answer = answers::said(Word::Close, b.slot, b.phy, r);
+    let answer = answers::said(Ok(Word::Close), b.slot, b.phy, r);
     let entry = records::marked(r, r.cancelled, CLOSED);
-    let loss = answers::no_loss();
-    answers::stored(q, answer, entry, loss)
+    answers::stored(q, answer, entry, None)
 }
 
 #[tactic(auto, unfolding(port_rows::specs::Calls::chosen))]
@@ -105,15 +94,15 @@ fn chosen(p: Port, r: Request, b: Pick, now: u64) -> Done
     if b.step == step::CLOSES {
         return closing(p, r, b, now);
     }
-    let q = ports::later(p, now);
-    answers::unnamed(q, Word::Nothing, false)
+    answers::unnamed(ports::later(p, now), Ok(Word::Nothing), false)
 }
 
 #[tactic(auto, unfolding(port_rows::specs::Calls::choose_core))]
 pub fn choose_core(p: Port, r: Request, kept: bool, b: Pick, now: u64) -> Done
     ensures { result ≡ choose_core p r kept b now }
 {
-    let c = choose_checked(p, kept, now);
-    let d = chosen(p, r, b, now);
-    answers::given(c, p, d)
+    if let Err(k) = choose_checked(p, kept, now) {
+        return answers::refused_by(p, k);
+    }
+    chosen(p, r, b, now)
 }

@@ -2,20 +2,19 @@
 ghost use Rattle.std.specs.Prelude.{◌≡◌};
 ghost use Rattle.port_rows.specs.Finds.{no_room, room_step, key_step};
 
-use crate::answers;
 use open_frame::Head;
 use port_parts::{NO_SLOT, Request, SSP, request_stage};
 use port_rows::{Key, Room};
 
 // Before submit has looked at a record.
+// A slot is a number, 32 for none, here and in `key_step`, as the answer has it: what may not change, `cancel_causes` and C's slot.
 pub fn no_room() -> Room
     ensures { result ≡ no_room }
 {
-    let loss = port_parts::no_stamp();
     Room {
         free: NO_SLOT,
         same: false,
-        loss,
+        loss: port_parts::no_stamp(),
     }
 }
 
@@ -29,13 +28,17 @@ pub fn room_step(a: Room, r: Request, i: usize, h: Head) -> Room
     let alike = g.protocol == h.protocol;
     let slot = port_parts::slot_at(i);
     Room {
-        free: answers::byte_if((a.free == NO_SLOT) & free, slot, a.free),
+        free: if (a.free == NO_SLOT) & free {
+            slot
+        } else {
+            a.free
+        },
         same: a.same | (!free & (there & (alike & (g.tag == h.tag)))),
-        loss: answers::stamp_if(
-            !free & (there & (alike & (h.protocol == SSP))),
-            r.loss,
-            a.loss,
-        ),
+        loss: if !free & (there & (alike & (h.protocol == SSP))) {
+            r.loss
+        } else {
+            a.loss
+        },
     }
 }
 
@@ -46,9 +49,9 @@ pub fn key_step(a: u8, r: Request, i: usize, x: Key) -> u8
     let h = r.head;
     let key = (h.destination == x.destination) & ((h.protocol == x.protocol) & (h.tag == x.tag));
     let slot = port_parts::slot_at(i);
-    answers::byte_if(
-        (a == NO_SLOT) & (!(r.stage == request_stage::FREE) & key),
-        slot,
-        a,
-    )
+    if (a == NO_SLOT) & (!(r.stage == request_stage::FREE) & key) {
+        slot
+    } else {
+        a
+    }
 }

@@ -2,6 +2,7 @@
 // lent list and stores it there.
 #![tactic(auto)]
 
+// The cores take port, record, rules and arguments one by one, which may not change: port_rows' definitions (`opened_core p r kept x`) and the theorems on them take them so.
 mod answers;
 mod cancels;
 mod chooses;

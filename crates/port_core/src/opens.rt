@@ -1,7 +1,6 @@
 // Document 01, 'Port': Opened and Open Failed.
 ghost use Rattle.std.specs.Prelude.{◌≡◌, cond, not};
 ghost use Rattle.refusals.specs.Causes.{refuse};
-ghost use Rattle.refusals.specs.declared.Checked.{Checked};
 ghost use Rattle.port_parts.specs.Parts.{blank};
 ghost use Rattle.port_rows.specs.Calls.{phy_causes, opened_core, open_failed_core};
 ghost use Rattle.port_rows.specs.Calls as calls;
@@ -11,24 +10,24 @@ use crate::{answers, cancels, ports, records};
 use open_frame::{Awt, Pbc};
 use port_parts::{Phy, Port, Reason, Request, SSP, Stamp, YES, phy_stage, request_stage};
 use port_rows::{Confirmed, Done, Failure, Word};
-use refusals::{Checked, Refusal};
+use refusals::Refusal;
 
-pub(crate) fn phy_checked(p: Port, kept: bool, k: u8, now: u64, unfit: bool) -> Checked
-    ensures { result ≡ refuse Checked.Refused (phy_causes p kept k now unfit) Checked.Passed }
+pub(crate) fn phy_checked(p: Port, kept: bool, k: u8, now: u64, unfit: bool) -> Result<(), Refusal>
+    ensures { result ≡ refuse Err (phy_causes p kept k now unfit) (Ok tt) }
 {
     if !kept {
-        return Checked::Refused(Refusal::Rules);
+        return Err(Refusal::Rules);
     }
     if !(k < p.count) {
-        return Checked::Refused(Refusal::Phy);
+        return Err(Refusal::Phy);
     }
     if now < p.last {
-        return Checked::Refused(Refusal::Past);
+        return Err(Refusal::Past);
     }
     if unfit {
-        return Checked::Refused(Refusal::Unfit);
+        return Err(Refusal::Unfit);
     }
-    Checked::Passed
+    Ok(())
 }
 
 fn connected(p: Port, f: Phy, r: Request, x: Confirmed) -> Done
@@ -36,14 +35,14 @@ fn connected(p: Port, f: Phy, r: Request, x: Confirmed) -> Done
 {
     let g = Phy {
         stage: cancels::opened_stage(r),
-        slot: f.slot,
         protocol: r.head.protocol,
         destination: r.head.destination,
+        ..f
     };
     let q = ports::with_phy(p, x.phy, g, x.now);
     let answer = answers::said(cancels::opened_word(r), f.slot, x.phy, r);
     let none = port_parts::no_stamp();
-    let timer = answers::stamp_if(r.head.protocol == SSP, none, r.loss);
+    let timer = if r.head.protocol == SSP { none } else { r.loss };
     let entry = records::timed(r, timer);
     let loss = answers::loss_by(r, none);
     answers::stored(q, answer, entry, loss)
@@ -54,16 +53,17 @@ pub fn opened_core(p: Port, r: Request, kept: bool, x: Confirmed) -> Done
     ensures { result ≡ opened_core p r kept x }
 {
     let f = ports::phy_at(p, x.phy);
-    let c = phy_checked(p, kept, x.phy, x.now, !(f.stage == phy_stage::OPENING));
-    let d = connected(p, f, r, x);
-    answers::given(c, p, d)
+    if let Err(k) = phy_checked(p, kept, x.phy, x.now, f.stage != phy_stage::OPENING) {
+        return answers::refused_by(p, k);
+    }
+    connected(p, f, r, x)
 }
 
 // One more, up to 255.
 fn one_more(n: Pbc) -> Pbc
     ensures { result ≡ calls.one_more n }
 {
-    if n.0 < 255 { Pbc(n.0 + 1) } else { Pbc(255) }
+    Pbc(n.0.saturating_add(1))
 }
 
 // The request waits again after its open failed.
@@ -89,20 +89,20 @@ fn timer_after(r: Request, why: Reason, now: u64) -> Stamp
     let stops = port_parts::is_stopping(why);
     let starts = port_parts::is_starting(why);
     let t = port_parts::timer_by(stops, starts, r.loss, now);
-    answers::stamp_if(r.head.protocol == SSP, t, r.loss)
+    if r.head.protocol == SSP { t } else { r.loss }
 }
 
 // What is said of a request that was not cancelled.
-fn failed_word(retried: bool, lost: bool, why: Reason) -> Word
-    ensures { result ≡ cond (not retried) (Ended why) (cond lost NexusLoss Retried) }
+fn failed_word(retried: bool, lost: bool, why: Reason) -> Result<Word, Refusal>
+    ensures { result ≡ cond (not retried) (Ok (Ended why)) (cond lost (Ok NexusLoss) (Ok Retried)) }
 {
     if !retried {
-        return Word::Ended(why);
+        return Ok(Word::Ended(why));
     }
     if lost {
-        return Word::NexusLoss;
+        return Ok(Word::NexusLoss);
     }
-    Word::Retried
+    Ok(Word::Retried)
 }
 
 fn failed_entry(goes_on: bool, r: Request, why: Reason, now: u64, t: Stamp) -> Request
@@ -129,12 +129,11 @@ fn failed(p: Port, f: Phy, r: Request, why: Reason, k: u8, now: u64) -> Done
     answers::stored(q, answer, entry, loss)
 }
 
-fn failed_checked(p: Port, kept: bool, x: Failure, unfit: bool) -> Checked
-    ensures { result ≡ refuse Checked.Refused (calls.failed_causes p kept x unfit) Checked.Passed }
+fn failed_checked(p: Port, kept: bool, x: Failure, unfit: bool) -> Result<(), Refusal>
+    ensures { result ≡ refuse Err (calls.failed_causes p kept x unfit) (Ok tt) }
 {
-    let why = port_parts::reason_of(x.why);
-    if !port_parts::is_listed(why) {
-        return Checked::Refused(Refusal::Unlisted);
+    if !port_parts::is_listed(port_parts::reason_of(x.why)) {
+        return Err(Refusal::Unlisted);
     }
     phy_checked(p, kept, x.phy, x.now, unfit)
 }
@@ -143,8 +142,8 @@ pub fn open_failed_core(p: Port, r: Request, kept: bool, x: Failure) -> Done
     ensures { result ≡ open_failed_core p r kept x }
 {
     let f = ports::phy_at(p, x.phy);
-    let c = failed_checked(p, kept, x, !(f.stage == phy_stage::OPENING));
-    let why = port_parts::reason_of(x.why);
-    let d = failed(p, f, r, why, x.phy, x.now);
-    answers::given(c, p, d)
+    if let Err(k) = failed_checked(p, kept, x, f.stage != phy_stage::OPENING) {
+        return answers::refused_by(p, k);
+    }
+    failed(p, f, r, port_parts::reason_of(x.why), x.phy, x.now)
 }

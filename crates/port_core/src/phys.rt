@@ -10,18 +10,19 @@ ghost use Rattle.port_rows.specs.declared.Word.TheVariants.{Taken};
 use crate::{answers, cancels, opens, ports, records};
 use port_parts::{NO_SLOT, Phy, Port, Request, YES, phy_stage, request_stage};
 use port_rows::{Confirmed, Done, Report, Word};
+use refusals::Refusal;
 
 fn framed(p: Port, f: Phy, r: Request, x: Report) -> Done
     ensures { result ≡ calls.framed p f r x }
 {
-    let stage = answers::byte_if(
-        f.stage == phy_stage::SENDING,
-        phy_stage::IDLE,
-        phy_stage::CLOSING,
-    );
+    let stage = if f.stage == phy_stage::SENDING {
+        phy_stage::IDLE
+    } else {
+        phy_stage::CLOSING
+    };
     let g = ports::staged_phy(stage, NO_SLOT, f);
     let q = ports::with_phy(p, x.phy, g, x.now);
-    let word = cancels::unless_cancelled(r, Word::Status(x.status));
+    let word = cancels::unless_cancelled(r, Ok(Word::Status(x.status)));
     let answer = answers::said(word, f.slot, x.phy, r);
     answers::ended(q, answer)
 }
@@ -31,27 +32,27 @@ pub fn frame_status_core(p: Port, r: Request, kept: bool, x: Report) -> Done
     ensures { result ≡ frame_status_core p r kept x }
 {
     let f = ports::phy_at(p, x.phy);
-    let out = port_parts::has_frame_out(f);
-    let c = opens::phy_checked(p, kept, x.phy, x.now, !out);
-    let d = framed(p, f, r, x);
-    answers::given(c, p, d)
+    if let Err(k) = opens::phy_checked(p, kept, x.phy, x.now, !port_parts::has_frame_out(f)) {
+        return answers::refused_by(p, k);
+    }
+    framed(p, f, r, x)
 }
 
 // What is said as a phy leaves the request that it names, and if it names none.
-fn left_word(f: Phy, r: Request, word: Word) -> Word
-    ensures { result ≡ cond (names f) (calls.unless_cancelled r word) Taken }
+fn left_word(f: Phy, r: Request, word: Result<Word, Refusal>) -> Result<Word, Refusal>
+    ensures { result ≡ cond (names f) (calls.unless_cancelled r word) (Ok Taken) }
 {
     if f.slot < NO_SLOT {
         return cancels::unless_cancelled(r, word);
     }
-    Word::Taken
+    Ok(Word::Taken)
 }
 
 fn closed_done(p: Port, f: Phy, r: Request, x: Confirmed) -> Done
     ensures { result ≡ calls.closed_done p f r x }
 {
     let q = ports::with_phy(p, x.phy, ports::unconnected_phy(), x.now);
-    let word = left_word(f, r, Word::ConnectionLost);
+    let word = left_word(f, r, Ok(Word::ConnectionLost));
     let answer = answers::said(word, f.slot, x.phy, r);
     answers::ended(q, answer)
 }
@@ -69,9 +70,10 @@ pub fn closed_core(p: Port, r: Request, kept: bool, x: Confirmed) -> Done
     ensures { result ≡ closed_core p r kept x }
 {
     let f = ports::phy_at(p, x.phy);
-    let c = opens::phy_checked(p, kept, x.phy, x.now, !is_joined(f));
-    let d = closed_done(p, f, r, x);
-    answers::given(c, p, d)
+    if let Err(k) = opens::phy_checked(p, kept, x.phy, x.now, !is_joined(f)) {
+        return answers::refused_by(p, k);
+    }
+    closed_done(p, f, r, x)
 }
 
 #[tactic(auto, unfolding(port_rows::specs::Calls::enable_core))]
@@ -79,11 +81,12 @@ pub fn enable_core(p: Port, r: Request, kept: bool, x: Confirmed) -> Done
     ensures { result ≡ enable_core p r kept x }
 {
     let f = ports::phy_at(p, x.phy);
-    let c = opens::phy_checked(p, kept, x.phy, x.now, !(f.stage == phy_stage::DISABLED));
+    if let Err(k) = opens::phy_checked(p, kept, x.phy, x.now, f.stage != phy_stage::DISABLED) {
+        return answers::refused_by(p, k);
+    }
     let q = ports::with_phy(p, x.phy, ports::unconnected_phy(), x.now);
-    let answer = answers::said(Word::Taken, NO_SLOT, x.phy, r);
-    let d = answers::ended(q, answer);
-    answers::given(c, p, d)
+    let answer = answers::said(Ok(Word::Taken), NO_SLOT, x.phy, r);
+    answers::ended(q, answer)
 }
 
 // The request of a phy that is disabled waits again, unless it was cancelled.
@@ -99,13 +102,10 @@ fn left_entry(r: Request) -> Request
 fn disabled_done(p: Port, f: Phy, r: Request, x: Confirmed) -> Done
     ensures { result ≡ calls.disabled_done p f r x }
 {
-    let off = port_parts::disabled_phy();
-    let q = ports::with_phy(p, x.phy, off, x.now);
-    let word = left_word(f, r, Word::Waiting);
+    let q = ports::with_phy(p, x.phy, port_parts::disabled_phy(), x.now);
+    let word = left_word(f, r, Ok(Word::Waiting));
     let answer = answers::said(word, f.slot, x.phy, r);
-    let entry = left_entry(r);
-    let loss = answers::no_loss();
-    answers::stored(q, answer, entry, loss)
+    answers::stored(q, answer, left_entry(r), None)
 }
 
 #[tactic(auto, unfolding(port_rows::specs::Calls::disable_core))]
@@ -113,7 +113,8 @@ pub fn disable_core(p: Port, r: Request, kept: bool, x: Confirmed) -> Done
     ensures { result ≡ disable_core p r kept x }
 {
     let f = ports::phy_at(p, x.phy);
-    let c = opens::phy_checked(p, kept, x.phy, x.now, f.stage == phy_stage::DISABLED);
-    let d = disabled_done(p, f, r, x);
-    answers::given(c, p, d)
+    if let Err(k) = opens::phy_checked(p, kept, x.phy, x.now, f.stage == phy_stage::DISABLED) {
+        return answers::refused_by(p, k);
+    }
+    disabled_done(p, f, r, x)
 }

@@ -8,36 +8,33 @@ use port_parts::{Request, Stamp};
 pub(crate) fn placed(r: Request, stage: u8, phy: u8) -> Request
     ensures { result ≡ placed r stage phy }
 {
-    let mut q = r;
-    q.stage = stage;
-    q.phy = phy;
-    q
+    Request { stage, phy, ..r }
 }
 
 pub(crate) fn marked(r: Request, cancelled: u8, closed: u16) -> Request
     ensures { result ≡ marked r cancelled closed }
 {
-    let mut q = r;
-    q.cancelled = cancelled;
-    q.closed = closed;
-    q
+    Request {
+        cancelled,
+        closed,
+        ..r
+    }
 }
 
 pub(crate) fn waited(r: Request, pbc: Pbc, awt: Awt, retry: Stamp, first: Stamp) -> Request
     ensures { result ≡ waited r pbc awt retry first }
 {
-    let mut q = r;
-    q.pbc = pbc;
-    q.awt = awt;
-    q.retry = retry;
-    q.first = first;
-    q
+    Request {
+        pbc,
+        awt,
+        retry,
+        first,
+        ..r
+    }
 }
 
 pub fn timed(r: Request, loss: Stamp) -> Request
     ensures { result ≡ timed r loss }
 {
-    let mut q = r;
-    q.loss = loss;
-    q
+    Request { loss, ..r }
 }

@@ -1,5 +1,6 @@
 -- A field of a request that Submitted sets, that only an answer about the request changes, and that no loss timer changes, is what the history says:
 -- the same steps over the entries since the submit that name the request. Assumes nothing.
+use Rattle.std.specs.Prelude.{Option}
 use Prim.Native.Nat.{ℕ, ◌<◌}
 use mathlib.Core.Path.{◌≡◌, refl, sym, ap, subst, ◌∙◌}
 use mathlib.Core.Bool.{Bool, true, false, cond, ◌&&◌}
@@ -67,9 +68,9 @@ module _ (A : Type 0) (k : Field A) where
   abbrev Shows : Key → List Entry → List Request → Type 0
   Shows x h l = (i : ℕ) → i < 32 → HasKey (get_or l i blank) x → k.of (get_or l i blank) ≡ shown x h
 
-  spread_field : (x : Loss) (r : Request) → k.of (spread x r) ≡ k.of r
+  spread_field : (x : Option Loss) (r : Request) → k.of (spread x r) ≡ k.of r
   spread_field x r =
-      by_spread x (λ (q : Request). k.of q ≡ k.of r) r (λ h. k.timers r x.timer) (λ h. refl)
+      by_spread x (λ (q : Request). k.of q ≡ k.of r) r (λ h. k.timers r h.loss.timer) (λ h. refl)
 
   -- ---- one call that is taken and no setup
 

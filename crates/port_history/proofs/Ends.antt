@@ -1,5 +1,6 @@
 -- A request that is present can be ended: a waiting one by Cancel, one in progress by disabling its phy, after which it waits or is
 -- gone. The rules say that neither call is refused at the last time. Assumes nothing.
+use Rattle.std.specs.Prelude.{Ok}
 use Prim.Native.Nat.{ℕ, ◌<◌}
 use mathlib.Core.Path.{◌≡◌, refl, sym, ap, subst, ◌∙◌}
 use mathlib.Core.Bool.{Bool, true, false, not, cond, ◌||◌}
@@ -86,7 +87,7 @@ module _ (s : State) (ok : Lawful s) (slot : ℕ) (below : slot < 32) (there : F
       by (at m t low) = one_of_key p l x.key ok.sound.kept (slot_of l x.key) slot m below ((key_says (get_or l (slot_of l x.key) blank) x.key).0 t) (there, keyed_of {g = r.head} {h = r.head} refl)
 
   abbrev cancel_done : Done
-  cancel_done = ended (later p p.last) (said CancelAcknowledged slot 8 r)
+  cancel_done = ended (later p p.last) (said (Ok CancelAcknowledged) slot 8 r)
 
   cancel_is : r.stage ≡ 1 → done_of (cancel x) s ≡ cancel_done
   unfolding done_of cancel_core cancelled
@@ -129,7 +130,7 @@ module _ (s : State) (ok : Lawful s) (slot : ℕ) (below : slot < 32) (there : F
 
     -- where the request is cancelled it leaves, else it waits
     abbrev disable_done : Bool → Done
-    disable_done u = stored (with_phy p r.phy disabled_phy p.last) (said (cond u CancelAcknowledged Waiting) slot r.phy r) (cond u blank (placed r 1 0)) no_loss
+    disable_done u = stored (with_phy p r.phy disabled_phy p.last) (said (cond u (Ok CancelAcknowledged) (Ok Waiting)) slot r.phy r) (cond u blank (placed r 1 0)) no_loss
 
     disable_is : done_of (disable y) s ≡ disable_done (is_cancelled r)
     unfolding done_of disable_core
@@ -142,7 +143,7 @@ module _ (s : State) (ok : Lawful s) (slot : ℕ) (below : slot < 32) (there : F
         left : Bool → ℕ → Done
         left t k =
             let q = get_or l k blank in
-            stored (with_phy p r.phy disabled_phy p.last) (said (cond t (cond (is_cancelled q) CancelAcknowledged Waiting) Taken) k r.phy q) (cond (is_cancelled q) blank (placed q 1 0)) no_loss
+            stored (with_phy p r.phy disabled_phy p.last) (said (cond t (cond (is_cancelled q) (Ok CancelAcknowledged) (Ok Waiting)) (Ok Taken)) k r.phy q) (cond (is_cancelled q) blank (placed q 1 0)) no_loss
 
     disabling_ends : is_cancelled r ≡ true → LastOn s (disable y) slot r.head
     disabling_ends e = last_on s (disable y) (disable_done true) slot r.head ok.list (disable_is ∙ ap disable_done e) refl refl refl

@@ -1,5 +1,7 @@
 -- What one entry of the history does to who is present: no word is two of Submitted, a last word and a refusal, so an entry with one of
 -- them does one thing. Assumes nothing.
+use Rattle.refusals.specs.declared.Refusal.{Refusal}
+use Rattle.std.specs.Prelude.{Err, Ok, Result}
 use mathlib.Core.Path.{◌≡◌, refl, sym, ap, ◌∙◌}
 use mathlib.Core.Bool.{Bool, true, false, cond, ◌&&◌}
 use lib.Dec.{ltb}
@@ -10,7 +12,7 @@ use Rattle.port_rows.specs.Finds.{is_of}
 use Rattle.port_rows.specs.declared.Answer.{Answer}
 use Rattle.port_rows.specs.declared.Key.{Key}
 use Rattle.port_rows.specs.declared.Word.{Word}
-use Rattle.port_rows.specs.declared.Word.TheVariants.{Taken, Submitted, Nothing, Send, Open, Close, StopArb, Retried, Waiting, CancelAcknowledged, Ended, NexusLoss, ConnectionLost, Status, Refused}
+use Rattle.port_rows.specs.declared.Word.TheVariants.{Taken, Submitted, Nothing, Send, Open, Close, StopArb, Retried, Waiting, CancelAcknowledged, Ended, NexusLoss, ConnectionLost, Status}
 use Rattle.port.specs.Grounds.{OfKey}
 use Rattle.port.specs.History.{Call, Entry, is_last, is_refused}
 use Rattle.port_history.specs.Standing.{is_setup, is_submitted, accepts, ends, speaks, Standing, gone, same_head, accepted, ended, spoken, after}
@@ -19,27 +21,27 @@ use Rattle.port_history.specs.Turns.{keyed}
 -- ---- words and keys
 
 -- no word is two of Submitted, a last word and a refusal
-pub words : (w : Word) → (is_last w ≡ true → (is_submitted w ≡ false) × (is_refused w ≡ false)) × (is_submitted w ≡ true → is_refused w ≡ false)
-words Taken = (λ e. (refl, refl), λ e. refl)
-words Submitted = (λ e. absurd (never e), λ e. refl)
-words Nothing = (λ e. (refl, refl), λ e. refl)
-words Send = (λ e. (refl, refl), λ e. refl)
-words Open = (λ e. (refl, refl), λ e. refl)
-words Close = (λ e. (refl, refl), λ e. refl)
-words StopArb = (λ e. (refl, refl), λ e. refl)
-words Retried = (λ e. (refl, refl), λ e. refl)
-words Waiting = (λ e. (refl, refl), λ e. refl)
-words CancelAcknowledged = (λ e. (refl, refl), λ e. refl)
-words (Ended why) = (λ e. (refl, refl), λ e. refl)
-words NexusLoss = (λ e. (refl, refl), λ e. refl)
-words ConnectionLost = (λ e. (refl, refl), λ e. refl)
-words (Status byte) = (λ e. (refl, refl), λ e. refl)
-words (Refused k) = (λ e. absurd (never e), λ e. absurd (never e))
+pub words : (w : Result Word Refusal) → (is_last w ≡ true → (is_submitted w ≡ false) × (is_refused w ≡ false)) × (is_submitted w ≡ true → is_refused w ≡ false)
+words (Ok Taken) = (λ e. (refl, refl), λ e. refl)
+words (Ok Submitted) = (λ e. absurd (never e), λ e. refl)
+words (Ok Nothing) = (λ e. (refl, refl), λ e. refl)
+words (Ok Send) = (λ e. (refl, refl), λ e. refl)
+words (Ok Open) = (λ e. (refl, refl), λ e. refl)
+words (Ok Close) = (λ e. (refl, refl), λ e. refl)
+words (Ok StopArb) = (λ e. (refl, refl), λ e. refl)
+words (Ok Retried) = (λ e. (refl, refl), λ e. refl)
+words (Ok Waiting) = (λ e. (refl, refl), λ e. refl)
+words (Ok CancelAcknowledged) = (λ e. (refl, refl), λ e. refl)
+words (Ok (Ended why)) = (λ e. (refl, refl), λ e. refl)
+words (Ok NexusLoss) = (λ e. (refl, refl), λ e. refl)
+words (Ok ConnectionLost) = (λ e. (refl, refl), λ e. refl)
+words (Ok (Status byte)) = (λ e. (refl, refl), λ e. refl)
+words (Err k) = (λ e. absurd (never e), λ e. absurd (never e))
 
-pub last_is_not_first : (w : Word) → is_last w ≡ true → is_submitted w ≡ false
+pub last_is_not_first : (w : Result Word Refusal) → is_last w ≡ true → is_submitted w ≡ false
 last_is_not_first w e = ((words w).0 e).0
 
-first_is_not_last : (w : Word) → is_submitted w ≡ true → is_last w ≡ false
+first_is_not_last : (w : Result Word Refusal) → is_submitted w ≡ true → is_last w ≡ false
 first_is_not_last w e = by (is_last w) refl
   where
     by : (t : Bool) → is_last w ≡ t → t ≡ false

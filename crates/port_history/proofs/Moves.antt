@@ -1,5 +1,6 @@
 -- What each call behind setup does to the loss timers: Submitted gives the new request its destination's, a confirmation changes that of its
 -- request's destination in every SSP request to it, and nothing else changes one. An Open Failed loses the nexus exactly by the timer behind it. Assumes nothing.
+use Rattle.std.specs.Prelude.{Option}
 use Prim.Native.Nat.{ℕ, ◌<◌}
 use mathlib.Core.Path.{◌≡◌, refl, sym, ap, subst, ◌∙◌}
 use mathlib.Core.Bool.{Bool, true, false, not, cond, ◌&&◌}
@@ -59,7 +60,7 @@ module _ (s : State) where
   -- ---- no timer moves
 
   still_others : (c : Call) (d : Done) → d.loss ≡ no_loss → ((t : Stamp) → after c t ≡ t) → (b : Request) (destination : ℕ) → (spread d.loss b).loss ≡ cond (concerns destination (record { call = c; answer = d.answer })) (after c b.loss) b.loss
-  still_others c d same rests b destination = ap (λ (x : Loss). (spread x b).loss) same ∙ by (concerns destination (record { call = c; answer = d.answer }))
+  still_others c d same rests b destination = ap (λ (x : Option Loss). (spread x b).loss) same ∙ by (concerns destination (record { call = c; answer = d.answer }))
     where
       by : (t : Bool) → b.loss ≡ cond t (after c b.loss) b.loss
       by true = sym (rests b.loss)
@@ -85,7 +86,7 @@ module _ (s : State) where
         new = λ e. absurd (never (sym first ∙ e));
         own = λ _ e h ssp. let q : is_ssp (on_phy l p k).head ≡ true = ap (λ (n : ℕ). is_ssp (get_or l n blank).head) (sym slot) ∙ ssp in own e q ∙ moves q ∙ ap (λ (n : ℕ). after c (get_or l n blank).loss) (sym slot);
         others = λ b destination ssp clean same.
-            ap (λ (x : Loss). (spread x b).loss) loss
+            ap (λ (x : Option Loss). (spread x b).loss) loss
             ∙ spreads c (on_phy l p k) t moves held.1 b destination ssp clean (λ q. ap (λ (n : ℕ). (get_or l n blank).loss) (sym slot) ∙ same (omega (arith, slot, held.0)) (subst (λ (n : ℕ). Ssp destination (get_or l n blank)) (sym slot) q))
             ∙ ap (λ (u : Bool). cond u (after c b.loss) b.loss) (sym (λ i. ltb_so i && (eqb (head i).destination destination && is_ssp (head i))));
       }

@@ -1,5 +1,6 @@
 -- A call changes the record at its answer's slot into its entry, and of the others at most a loss timer: the walk that leaves the list
 -- writes nothing else. So how a request comes, leaves or stays is read off the answer and the entry. Assumes nothing.
+use Rattle.std.specs.Prelude.{Option}
 use Prim.Native.Nat.{ℕ, ◌<◌}
 use mathlib.Core.Path.{◌≡◌, refl, sym, ap, subst, ◌∙◌}
 use mathlib.Core.Bool.{Bool, true, false}
@@ -31,10 +32,10 @@ pub stays_there : {r b : Request} → (Free r → ⊥) → (Free b → ⊥) → 
 stays_there p q e t = record { free = λ f. absurd (p f); present = λ _. (q, e); time = λ _. t }
 
 -- a loss timer goes into no free record, and changes neither stage nor head nor time
-pub spread_stays : (x : Loss) (r : Request) → Stays r (spread x r)
+pub spread_stays : (x : Option Loss) (r : Request) → Stays r (spread x r)
 spread_stays x r =
     record {
-      free = λ f. by_spread x (λ (b : Request). b ≡ r) r (λ h. absurd (h.1.0 f)) (λ h. refl);
+      free = λ f. by_spread x (λ (b : Request). b ≡ r) r (λ h. absurd (h.there f)) (λ h. refl);
       present = λ p. by_spread x (λ (b : Request). (Free b → ⊥) × (b.head ≡ r.head)) r (λ h. (p, refl)) (λ h. (p, refl));
       time = λ p. by_spread x (λ (b : Request). b.submitted ≡ r.submitted) r (λ h. refl) (λ h. refl);
     }

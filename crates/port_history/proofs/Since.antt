@@ -1,5 +1,7 @@
 -- A mark that Submitted leaves off and only entries of one kind set is set exactly if the history has such an entry since the submit: no other call
 -- changes it. So it is with a Cancel, and with the Close by which choose closes a phy for a request. Assumes nothing.
+use Rattle.refusals.specs.declared.Refusal.{Refusal}
+use Rattle.std.specs.Prelude.{Err, Ok, Result}
 use Prim.Native.Nat.{ℕ, ◌<◌}
 use mathlib.Core.Path.{◌≡◌, refl, sym, ap, subst, ◌∙◌}
 use mathlib.Core.Bool.{Bool, true, false, cond, ◌&&◌, ◌||◌}
@@ -12,7 +14,7 @@ use Rattle.port_rows.specs.Calls.{is_cancelled}
 use Rattle.port_rows.specs.declared.Answer.{Answer}
 use Rattle.port_rows.specs.declared.Key.{Key}
 use Rattle.port_rows.specs.declared.Word.{Word}
-use Rattle.port_rows.specs.declared.Word.TheVariants.{Taken, Submitted, Nothing, Send, Open, Close, StopArb, Retried, Waiting, CancelAcknowledged, Ended, NexusLoss, ConnectionLost, Status, Refused}
+use Rattle.port_rows.specs.declared.Word.TheVariants.{Taken, Submitted, Nothing, Send, Open, Close, StopArb, Retried, Waiting, CancelAcknowledged, Ended, NexusLoss, ConnectionLost, Status}
 use Rattle.port.specs.Grounds.{HasKey}
 use Rattle.port.specs.History.{State, Call, done_of, stepped_by, is_refused, is_last, Entry}
 use Rattle.port_history.specs.Standing.{is_setup, is_submitted, accepts, speaks}
@@ -83,25 +85,25 @@ module _ (r : Run) (x : Key) (i : ℕ) (below : i < 32) (has : HasKey (get_or (n
   closed_since = ap (λ (n : ℕ). eqb n 1) (shows ℕ (field_of ℕ (λ q. q.closed) 0 (set_by closes) closed_kept) r x i below has) ∙ since_is closes x (past r)
 
 -- neither Submitted nor a last word nor a refusal
-abbrev pub Between : Word → Type 0
+abbrev pub Between : Result Word Refusal → Type 0
 Between w = ((is_submitted w ≡ false) × (is_last w ≡ false)) × (is_refused w ≡ false)
 
-pub between : (w : Word) → is_going w || is_close w ≡ true → Between w
-between Taken e = absurd (never e)
-between Submitted e = absurd (never e)
-between Nothing e = absurd (never e)
-between Send e = ((refl, refl), refl)
-between Open e = ((refl, refl), refl)
-between Close e = ((refl, refl), refl)
-between StopArb e = absurd (never e)
-between Retried e = absurd (never e)
-between Waiting e = absurd (never e)
-between CancelAcknowledged e = absurd (never e)
-between (Ended why) e = absurd (never e)
-between NexusLoss e = absurd (never e)
-between ConnectionLost e = absurd (never e)
-between (Status byte) e = absurd (never e)
-between (Refused k) e = absurd (never e)
+pub between : (w : Result Word Refusal) → is_going w || is_close w ≡ true → Between w
+between (Ok Taken) e = absurd (never e)
+between (Ok Submitted) e = absurd (never e)
+between (Ok Nothing) e = absurd (never e)
+between (Ok Send) e = ((refl, refl), refl)
+between (Ok Open) e = ((refl, refl), refl)
+between (Ok Close) e = ((refl, refl), refl)
+between (Ok StopArb) e = absurd (never e)
+between (Ok Retried) e = absurd (never e)
+between (Ok Waiting) e = absurd (never e)
+between (Ok CancelAcknowledged) e = absurd (never e)
+between (Ok (Ended why)) e = absurd (never e)
+between (Ok NexusLoss) e = absurd (never e)
+between (Ok ConnectionLost) e = absurd (never e)
+between (Ok (Status byte)) e = absurd (never e)
+between (Err k) e = absurd (never e)
 
 module _ (r : Run) (c : Call) where
   abbrev s : State

@@ -1,5 +1,6 @@
 -- What is told of a call is what its definition says where the list is 32 records long, a lawful state stays one, and a setup that is
 -- taken leaves all zeros. Assumes nothing.
+use Rattle.std.specs.Prelude.{Err, Ok, Result}
 use Prim.Native.Nat.{ℕ, ◌<◌}
 use mathlib.Core.Path.{◌≡◌, refl, sym, ap, ◌∙◌}
 use mathlib.Core.Bool.{Bool, true, false, not, cond}
@@ -17,7 +18,7 @@ use Rattle.port_rows.specs.Answers.{fresh, no_port, unnamed, refused_by}
 use Rattle.port_rows.specs.Calls.{setup_core}
 use Rattle.port_rows.specs.declared.Done.{Done}
 use Rattle.port_rows.specs.declared.Word.{Word}
-use Rattle.port_rows.specs.declared.Word.TheVariants.{Taken, Refused}
+use Rattle.port_rows.specs.declared.Word.TheVariants.{Taken}
 use Rattle.port.specs.Calls.{left_of, answered}
 use Rattle.port.specs.History.{State, Call, setup, submit, cancel, choose, opened, open_failed, frame_status, closed, enable, disable, done_of, short_of, stepped_by, is_refused, leave, Entry, entries_of}
 use Rattle.port.specs.declared.Stepped.{Stepped}
@@ -68,7 +69,7 @@ setup_zeros c s len =
     (λ count loss on. left_zeros s.list (done_of (setup count loss) s) len (setup_clears count loss s on)) c
 
 -- a setup's word is Taken or a refusal
-pub setup_says : (c : Call) (s : State) (f : Word → Bool) → f Taken ≡ false → ((k : Refusal) → f (Refused k) ≡ false) → is_setup c ≡ true → f (done_of c s).answer.word ≡ false
+pub setup_says : (c : Call) (s : State) (f : Result Word Refusal → Bool) → f (Ok Taken) ≡ false → ((k : Refusal) → f (Err k) ≡ false) → is_setup c ≡ true → f (done_of c s).answer.word ≡ false
 unfolding taken_of
 setup_says c s f a b = by_setup (λ (c : Call). f (done_of c s).answer.word ≡ false) (λ count loss. by_done (setup count loss) s (λ (d : Done). f d.answer.word ≡ false) b (λ _. a)) c
 
@@ -80,7 +81,7 @@ module _ (r : Run) where
   accepted : is_refused (stepped_by first r.lent).answer.word ≡ true → ⊥
   unfolding done_of setup_core
   accepted off =
-      let passed = unrefused (refused_by no_port) (unnamed (fresh r.count r.loss) Taken true) ((Refusal.Rules when not (in_range r.count r.loss)) ∷ []) (ap not ((range_says r.count r.loss).1 r.range), tt) in
+      let passed = unrefused (refused_by no_port) (unnamed (fresh r.count r.loss) (Ok Taken) true) ((Refusal.Rules when not (in_range r.count r.loss)) ∷ []) (ap not ((range_says r.count r.loss).1 r.range), tt) in
       never (ap (λ (d : Done). is_refused d.answer.word) passed ∙ sym (ap (λ (q : Stepped). is_refused q.answer.word) (answers first r.lent r.sized)) ∙ off)
 
   pub by_first : (P : State → List Entry → Type 0) → (is_refused (done_of first r.lent).answer.word ≡ false → P (taken_state first r.lent (done_of first r.lent)) (taken_entry first r.lent (done_of first r.lent) ∷ []))

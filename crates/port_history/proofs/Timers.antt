@@ -1,5 +1,6 @@
 -- A loss timer that doesn't run has no time, so what a confirmation makes of it is told by whether it runs; and a timer that goes to the
 -- SSP requests of a destination is the same in each. Assumes nothing.
+use Rattle.std.specs.Prelude.{Option, Some, None}
 use Prim.Native.Nat.{ℕ}
 use mathlib.Core.Path.{◌≡◌, refl, sym, ap, ◌∙◌}
 use mathlib.Core.Bool.{Bool, true, false, not, cond, ◌&&◌, ◌||◌}
@@ -16,7 +17,7 @@ use Rattle.port_rows.specs.Answers.{loss_by}
 use Rattle.port_rows.specs.Records.{spread}
 use Rattle.port_rows.specs.declared.Loss.{Loss}
 use Rattle.port.specs.History.{Call}
-use Rattle.port_invariant.proofs.Spreads.{Reached, by_spread}
+use Rattle.port_invariant.proofs.Spreads.{Reached, by_spread, of_loss}
 use Rattle.port_history.specs.Turns.{Ssp}
 use Rattle.port_history.specs.Times.{time_of, why_of, is_opened, confirmed}
 
@@ -63,7 +64,7 @@ pub spreads : (c : Call) (r : Request) (t : Stamp) → (is_ssp r.head ≡ true �
     → (spread (loss_by r t) b).loss ≡ cond (eqb r.head.destination destination && is_ssp r.head) (after c b.loss) b.loss
 spreads c r t moves there b destination ssp clean same = by_spread x (λ (q : Request). q.loss ≡ cond mine (after c b.loss) b.loss) b reached (λ off. by mine refl off)
   where
-    x : Loss
+    x : Option Loss
     x = loss_by r t
 
     mine : Bool
@@ -73,11 +74,12 @@ spreads c r t moves there b destination ssp clean same = by_spread x (λ (q : Re
     mate : r.head.destination ≡ destination → is_ssp r.head ≡ true → t ≡ after c b.loss
     mate d p = moves p ∙ ap (after c) (same (there, (eqb-true r.head.protocol 1 p, d)))
 
-    reached : Reached x b → t ≡ cond mine (after c b.loss) b.loss
+    reached : (h : Reached x b) → h.loss.timer ≡ cond mine (after c b.loss) b.loss
     reached h =
-        let p : is_ssp r.head ≡ true = and_left (is_ssp r.head) (not (eqb r.loss.set t.set)) h.0 in
-        let d : r.head.destination ≡ destination = sym h.1.1.1 ∙ ssp.1.1 in
-        mate d p ∙ sym (ap (λ (u : Bool). cond u (after c b.loss) b.loss) (and_true (eq-eqb r.head.destination destination d) p))
+        let of = of_loss r t h.is in
+        let p : is_ssp r.head ≡ true = and_left (is_ssp r.head) (not (eqb r.loss.set t.set)) of.0 in
+        let d : r.head.destination ≡ destination = sym (h.same ∙ ap (λ (y : Loss). y.destination) of.1) ∙ ssp.1.1 in
+        ap (λ (y : Loss). y.timer) of.1 ∙ mate d p ∙ sym (ap (λ (u : Bool). cond u (after c b.loss) b.loss) (and_true (eq-eqb r.head.destination destination d) p))
 
     by : (u : Bool) → mine ≡ u → (Reached x b → ⊥) → b.loss ≡ cond u (after c b.loss) b.loss
     by false e off = refl
@@ -92,4 +94,10 @@ spreads c r t moves there b destination ssp clean same = by_spread x (λ (q : Re
         even : (u : Bool) → eqb r.loss.set t.set ≡ u → b.loss ≡ after c b.loss
         even true q =
             sym (settled c b.loss clean (sym (λ i. eqb (same (there, (eqb-true r.head.protocol 1 p, d)) i).set (mate d p i).set) ∙ q))
-        even false q = absurd (off (and_true p (ap not q), (ssp.0, (ssp.1.0, ssp.1.1 ∙ sym d))))
+        even false q = absurd (off (record {
+          loss = record { destination = r.head.destination; timer = t };
+          is = ap (λ (u : Bool). cond u (Some (record { destination = r.head.destination; timer = t })) None) (and_true p (ap not q));
+          there = ssp.0;
+          ssp = ssp.1.0;
+          same = ssp.1.1 ∙ sym d;
+        }))

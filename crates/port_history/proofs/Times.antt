@@ -1,5 +1,7 @@
 -- The stamps of a request are what the history says of it, since the same entries change them. So choose names no request within 15
 -- microseconds of its last Retried, and an Open carries the wait since the request's first Open behind its last reset. Assumes nothing.
+use Rattle.refusals.specs.declared.Refusal.{Refusal}
+use Rattle.std.specs.Prelude.{Err, Ok, Result}
 use Prim.Native.Nat.{ℕ, ◌+◌, ◌-◌, ◌≤◌, ◌<◌}
 use mathlib.Core.Path.{◌≡◌, refl, sym, ap, subst, ◌∙◌}
 use mathlib.Core.Bool.{Bool, true, false, cond, ◌||◌}
@@ -14,7 +16,7 @@ use Rattle.port_parts.specs.declared.Stamp.{Stamp}
 use Rattle.port_rows.specs.declared.Answer.{Answer}
 use Rattle.port_rows.specs.declared.Key.{Key}
 use Rattle.port_rows.specs.declared.Word.{Word}
-use Rattle.port_rows.specs.declared.Word.TheVariants.{Taken, Submitted, Nothing, Send, Open, Close, StopArb, Retried, Waiting, CancelAcknowledged, Ended, NexusLoss, ConnectionLost, Status, Refused}
+use Rattle.port_rows.specs.declared.Word.TheVariants.{Taken, Submitted, Nothing, Send, Open, Close, StopArb, Retried, Waiting, CancelAcknowledged, Ended, NexusLoss, ConnectionLost, Status}
 use Rattle.port.specs.History.{State, Call, stepped_by, Entry}
 use Rattle.port_history.specs.Standing.{is_setup, accepts, speaks}
 use Rattle.port_history.specs.Turns.{keyed}
@@ -79,22 +81,22 @@ first_is x (e ∷ h) = by (is_setup e.call) (accepts x e) (speaks x e) (resets i
 
 -- ---- what choose answers
 
-open_goes : (w : Word) → is_open w ≡ true → is_going w || is_close w ≡ true
-open_goes Taken e = absurd (never e)
-open_goes Submitted e = absurd (never e)
-open_goes Nothing e = absurd (never e)
-open_goes Send e = refl
-open_goes Open e = refl
-open_goes Close e = refl
-open_goes StopArb e = absurd (never e)
-open_goes Retried e = absurd (never e)
-open_goes Waiting e = absurd (never e)
-open_goes CancelAcknowledged e = absurd (never e)
-open_goes (Ended why) e = absurd (never e)
-open_goes NexusLoss e = absurd (never e)
-open_goes ConnectionLost e = absurd (never e)
-open_goes (Status byte) e = absurd (never e)
-open_goes (Refused k) e = absurd (never e)
+open_goes : (w : Result Word Refusal) → is_open w ≡ true → is_going w || is_close w ≡ true
+open_goes (Ok Taken) e = absurd (never e)
+open_goes (Ok Submitted) e = absurd (never e)
+open_goes (Ok Nothing) e = absurd (never e)
+open_goes (Ok Send) e = refl
+open_goes (Ok Open) e = refl
+open_goes (Ok Close) e = refl
+open_goes (Ok StopArb) e = absurd (never e)
+open_goes (Ok Retried) e = absurd (never e)
+open_goes (Ok Waiting) e = absurd (never e)
+open_goes (Ok CancelAcknowledged) e = absurd (never e)
+open_goes (Ok (Ended why)) e = absurd (never e)
+open_goes (Ok NexusLoss) e = absurd (never e)
+open_goes (Ok ConnectionLost) e = absurd (never e)
+open_goes (Ok (Status byte)) e = absurd (never e)
+open_goes (Err k) e = absurd (never e)
 
 module _ (r : Run) (c : Call) where
   abbrev s : State

@@ -1,5 +1,6 @@
 -- What one call does to the records, of any lent state: a list of another length and a state that breaks its rules are refused, and of the others the
 -- word tells whether a request comes, one leaves, or none does. Assumes nothing.
+use Rattle.std.specs.Prelude.{Err, Ok, Result}
 use mathlib.Core.Path.{◌≡◌, refl, sym, ap, subst, ◌∙◌}
 use mathlib.Core.Bool.{Bool, true, false, cond}
 use mathlib.Core.List.{List, [], ◌∷◌}
@@ -16,7 +17,7 @@ use Rattle.port_rules.specs.Rules.{rules}
 use Rattle.port_rules.proofs.Facts.{rules_say}
 use Rattle.port_rows.specs.declared.Answer.{Answer}
 use Rattle.port_rows.specs.declared.Word.{Word}
-use Rattle.port_rows.specs.declared.Word.TheVariants.{Taken, Refused}
+use Rattle.port_rows.specs.declared.Word.TheVariants.{Taken}
 use Rattle.port.specs.Calls.{left_of, on32}
 use Rattle.port.specs.History.{State, Call, setup, submit, cancel, choose, opened, open_failed, frame_status, closed, enable, disable, done_of, stepped_by, is_refused, is_last, leave, entries_of}
 use Rattle.port.specs.declared.Stepped.{Stepped}
@@ -83,7 +84,7 @@ module _ (c : Call) (s : State) (eight : length s.port.phys ≡ 8) where
       (when_taken c s (λ (r : Stepped) (n : List Request). Turns l n r.answer) (λ size yet. turned s (lawful_of c s size eight plain yet) c plain yet) on)
 
   -- a word on a request is no setup's
-  pub plain_by : (f : Word → Bool) → f Taken ≡ false → ((k : Refusal) → f (Refused k) ≡ false) → is_refused said.word ≡ false → f said.word ≡ true → is_setup c ≡ false
+  pub plain_by : (f : Result Word Refusal → Bool) → f (Ok Taken) ≡ false → ((k : Refusal) → f (Err k) ≡ false) → is_refused said.word ≡ false → f said.word ≡ true → is_setup c ≡ false
   plain_by f begins refuses on e = by (is_setup c) refl
     where
       by : (t : Bool) → is_setup c ≡ t → t ≡ false

@@ -1,8 +1,9 @@
 -- Document 01, 'Port': what happened to a request since its submit, read from calls and answers alone. Assumes nothing.
-use Rattle.std.specs.Prelude.{Bool, true, false, cond, ◌&&◌, ◌||◌, List, [], ◌∷◌}
+use Rattle.refusals.specs.declared.Refusal.{Refusal}
+use Rattle.std.specs.Prelude.{Bool, true, false, cond, ◌&&◌, ◌||◌, List, [], ◌∷◌, Err, Ok, Result}
 use Rattle.port_rows.specs.declared.Key.{Key}
 use Rattle.port_rows.specs.declared.Word.{Word}
-use Rattle.port_rows.specs.declared.Word.TheVariants.{Taken, Submitted, Nothing, Send, Open, Close, StopArb, Retried, Waiting, CancelAcknowledged, Ended, NexusLoss, ConnectionLost, Status, Refused}
+use Rattle.port_rows.specs.declared.Word.TheVariants.{Taken, Submitted, Nothing, Send, Open, Close, StopArb, Retried, Waiting, CancelAcknowledged, Ended, NexusLoss, ConnectionLost, Status}
 use Rattle.port.specs.History.{Call, setup, submit, cancel, choose, opened, open_failed, frame_status, closed, enable, disable, Entry}
 use Rattle.port_history.specs.Standing.{is_setup, accepts, speaks}
 
@@ -18,40 +19,40 @@ is_cancel (closed x) = false
 is_cancel (enable x) = false
 is_cancel (disable x) = false
 
-abbrev pub is_acknowledged : Word → Bool
-is_acknowledged Taken = false
-is_acknowledged Submitted = false
-is_acknowledged Nothing = false
-is_acknowledged Send = false
-is_acknowledged Open = false
-is_acknowledged Close = false
-is_acknowledged StopArb = false
-is_acknowledged Retried = false
-is_acknowledged Waiting = false
-is_acknowledged CancelAcknowledged = true
-is_acknowledged (Ended why) = false
-is_acknowledged NexusLoss = false
-is_acknowledged ConnectionLost = false
-is_acknowledged (Status byte) = false
-is_acknowledged (Refused k) = false
+abbrev pub is_acknowledged : Result Word Refusal → Bool
+is_acknowledged (Ok Taken) = false
+is_acknowledged (Ok Submitted) = false
+is_acknowledged (Ok Nothing) = false
+is_acknowledged (Ok Send) = false
+is_acknowledged (Ok Open) = false
+is_acknowledged (Ok Close) = false
+is_acknowledged (Ok StopArb) = false
+is_acknowledged (Ok Retried) = false
+is_acknowledged (Ok Waiting) = false
+is_acknowledged (Ok CancelAcknowledged) = true
+is_acknowledged (Ok (Ended why)) = false
+is_acknowledged (Ok NexusLoss) = false
+is_acknowledged (Ok ConnectionLost) = false
+is_acknowledged (Ok (Status byte)) = false
+is_acknowledged (Err k) = false
 
 -- the request's frame goes, or an open for it
-abbrev pub is_going : Word → Bool
-is_going Taken = false
-is_going Submitted = false
-is_going Nothing = false
-is_going Send = true
-is_going Open = true
-is_going Close = false
-is_going StopArb = false
-is_going Retried = false
-is_going Waiting = false
-is_going CancelAcknowledged = false
-is_going (Ended why) = false
-is_going NexusLoss = false
-is_going ConnectionLost = false
-is_going (Status byte) = false
-is_going (Refused k) = false
+abbrev pub is_going : Result Word Refusal → Bool
+is_going (Ok Taken) = false
+is_going (Ok Submitted) = false
+is_going (Ok Nothing) = false
+is_going (Ok Send) = true
+is_going (Ok Open) = true
+is_going (Ok Close) = false
+is_going (Ok StopArb) = false
+is_going (Ok Retried) = false
+is_going (Ok Waiting) = false
+is_going (Ok CancelAcknowledged) = false
+is_going (Ok (Ended why)) = false
+is_going (Ok NexusLoss) = false
+is_going (Ok ConnectionLost) = false
+is_going (Ok (Status byte)) = false
+is_going (Err k) = false
 
 abbrev pub is_choose : Call → Bool
 is_choose (setup count loss) = false
@@ -65,22 +66,22 @@ is_choose (closed x) = false
 is_choose (enable x) = false
 is_choose (disable x) = false
 
-abbrev pub is_close : Word → Bool
-is_close Taken = false
-is_close Submitted = false
-is_close Nothing = false
-is_close Send = false
-is_close Open = false
-is_close Close = true
-is_close StopArb = false
-is_close Retried = false
-is_close Waiting = false
-is_close CancelAcknowledged = false
-is_close (Ended why) = false
-is_close NexusLoss = false
-is_close ConnectionLost = false
-is_close (Status byte) = false
-is_close (Refused k) = false
+abbrev pub is_close : Result Word Refusal → Bool
+is_close (Ok Taken) = false
+is_close (Ok Submitted) = false
+is_close (Ok Nothing) = false
+is_close (Ok Send) = false
+is_close (Ok Open) = false
+is_close (Ok Close) = true
+is_close (Ok StopArb) = false
+is_close (Ok Retried) = false
+is_close (Ok Waiting) = false
+is_close (Ok CancelAcknowledged) = false
+is_close (Ok (Ended why)) = false
+is_close (Ok NexusLoss) = false
+is_close (Ok ConnectionLost) = false
+is_close (Ok (Status byte)) = false
+is_close (Err k) = false
 
 -- since the last accepted submit of x there was an entry of some kind that names it
 abbrev pub since : (Entry → Bool) → Key → List Entry → Bool

@@ -1,6 +1,7 @@
 -- Document 01, 'Port': what the history of calls and answers says of a key. It is read from the calls that were taken and from their
 -- answers alone: no state is read here. A setup that was taken begins anew. Assumes nothing.
-use Rattle.std.specs.Prelude.{ℕ, ◌+◌, Bool, true, false, cond, ◌&&◌, List, [], ◌∷◌, eqb, ltb}
+use Rattle.refusals.specs.declared.Refusal.{Refusal}
+use Rattle.std.specs.Prelude.{ℕ, ◌+◌, Bool, true, false, cond, ◌&&◌, List, [], ◌∷◌, eqb, ltb, Err, Ok, Result}
 use Rattle.laws.specs.Sets.{bit}
 use Rattle.open_frame.specs.declared.Head.{Head}
 use Rattle.port_parts.specs.Parts.{no_slot}
@@ -8,7 +9,7 @@ use Rattle.port_rows.specs.Finds.{is_of}
 use Rattle.port_rows.specs.declared.Answer.{Answer}
 use Rattle.port_rows.specs.declared.Key.{Key}
 use Rattle.port_rows.specs.declared.Word.{Word}
-use Rattle.port_rows.specs.declared.Word.TheVariants.{Taken, Submitted, Nothing, Send, Open, Close, StopArb, Retried, Waiting, CancelAcknowledged, Ended, NexusLoss, ConnectionLost, Status, Refused}
+use Rattle.port_rows.specs.declared.Word.TheVariants.{Taken, Submitted, Nothing, Send, Open, Close, StopArb, Retried, Waiting, CancelAcknowledged, Ended, NexusLoss, ConnectionLost, Status}
 use Rattle.port.specs.History.{Call, setup, submit, cancel, choose, opened, open_failed, frame_status, closed, enable, disable, Entry, is_last}
 
 abbrev pub is_setup : Call → Bool
@@ -23,22 +24,22 @@ is_setup (closed x) = false
 is_setup (enable x) = false
 is_setup (disable x) = false
 
-abbrev pub is_submitted : Word → Bool
-is_submitted Taken = false
-is_submitted Submitted = true
-is_submitted Nothing = false
-is_submitted Send = false
-is_submitted Open = false
-is_submitted Close = false
-is_submitted StopArb = false
-is_submitted Retried = false
-is_submitted Waiting = false
-is_submitted CancelAcknowledged = false
-is_submitted (Ended why) = false
-is_submitted NexusLoss = false
-is_submitted ConnectionLost = false
-is_submitted (Status byte) = false
-is_submitted (Refused k) = false
+abbrev pub is_submitted : Result Word Refusal → Bool
+is_submitted (Ok Taken) = false
+is_submitted (Ok Submitted) = true
+is_submitted (Ok Nothing) = false
+is_submitted (Ok Send) = false
+is_submitted (Ok Open) = false
+is_submitted (Ok Close) = false
+is_submitted (Ok StopArb) = false
+is_submitted (Ok Retried) = false
+is_submitted (Ok Waiting) = false
+is_submitted (Ok CancelAcknowledged) = false
+is_submitted (Ok (Ended why)) = false
+is_submitted (Ok NexusLoss) = false
+is_submitted (Ok ConnectionLost) = false
+is_submitted (Ok (Status byte)) = false
+is_submitted (Err k) = false
 
 -- the entry accepts a submit of x
 abbrev pub accepts : Key → Entry → Bool

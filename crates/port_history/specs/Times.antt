@@ -1,6 +1,7 @@
 -- Document 01, 'Port': its times a second time, read from the calls that were taken and from their answers alone: when a request was
 -- retried, when it was opened since its last reset, from when a destination's loss timer runs. No state is read here. Assumes nothing.
-use Rattle.std.specs.Prelude.{ℕ, ◌+◌, ◌*◌, Bool, true, false, not, cond, ◌&&◌, ◌||◌, List, [], ◌∷◌, eqb, leb, ltb}
+use Rattle.refusals.specs.declared.Refusal.{Refusal}
+use Rattle.std.specs.Prelude.{ℕ, ◌+◌, ◌*◌, Bool, true, false, not, cond, ◌&&◌, ◌||◌, List, [], ◌∷◌, eqb, leb, ltb, Err, Ok, Result}
 use Rattle.port_parts.specs.Parts.{no_slot, no_stamp, stamped, is_set, is_ssp}
 use Rattle.port_parts.specs.Reasons.{reason_of}
 use Rattle.port_parts.specs.declared.Reason.{Reason}
@@ -8,7 +9,7 @@ use Rattle.port_parts.specs.declared.Reason.TheVariants.{Other}
 use Rattle.port_parts.specs.declared.Stamp.{Stamp}
 use Rattle.port_rows.specs.declared.Key.{Key}
 use Rattle.port_rows.specs.declared.Word.{Word}
-use Rattle.port_rows.specs.declared.Word.TheVariants.{Taken, Submitted, Nothing, Send, Open, Close, StopArb, Retried, Waiting, CancelAcknowledged, Ended, NexusLoss, ConnectionLost, Status, Refused}
+use Rattle.port_rows.specs.declared.Word.TheVariants.{Taken, Submitted, Nothing, Send, Open, Close, StopArb, Retried, Waiting, CancelAcknowledged, Ended, NexusLoss, ConnectionLost, Status}
 use Rattle.port.specs.History.{Call, setup, submit, cancel, choose, opened, open_failed, frame_status, closed, enable, disable, Entry, is_last}
 use Rattle.port_history.specs.Standing.{is_setup, is_submitted, accepts, speaks}
 use Rattle.port_history.specs.Marks.{is_going, is_choose, is_close}
@@ -52,56 +53,56 @@ is_opened (closed x) = false
 is_opened (enable x) = false
 is_opened (disable x) = false
 
-abbrev pub is_open : Word → Bool
-is_open Taken = false
-is_open Submitted = false
-is_open Nothing = false
-is_open Send = false
-is_open Open = true
-is_open Close = false
-is_open StopArb = false
-is_open Retried = false
-is_open Waiting = false
-is_open CancelAcknowledged = false
-is_open (Ended why) = false
-is_open NexusLoss = false
-is_open ConnectionLost = false
-is_open (Status byte) = false
-is_open (Refused k) = false
+abbrev pub is_open : Result Word Refusal → Bool
+is_open (Ok Taken) = false
+is_open (Ok Submitted) = false
+is_open (Ok Nothing) = false
+is_open (Ok Send) = false
+is_open (Ok Open) = true
+is_open (Ok Close) = false
+is_open (Ok StopArb) = false
+is_open (Ok Retried) = false
+is_open (Ok Waiting) = false
+is_open (Ok CancelAcknowledged) = false
+is_open (Ok (Ended why)) = false
+is_open (Ok NexusLoss) = false
+is_open (Ok ConnectionLost) = false
+is_open (Ok (Status byte)) = false
+is_open (Err k) = false
 
-abbrev pub is_retry : Word → Bool
-is_retry Taken = false
-is_retry Submitted = false
-is_retry Nothing = false
-is_retry Send = false
-is_retry Open = false
-is_retry Close = false
-is_retry StopArb = false
-is_retry Retried = true
-is_retry Waiting = false
-is_retry CancelAcknowledged = false
-is_retry (Ended why) = false
-is_retry NexusLoss = false
-is_retry ConnectionLost = false
-is_retry (Status byte) = false
-is_retry (Refused k) = false
+abbrev pub is_retry : Result Word Refusal → Bool
+is_retry (Ok Taken) = false
+is_retry (Ok Submitted) = false
+is_retry (Ok Nothing) = false
+is_retry (Ok Send) = false
+is_retry (Ok Open) = false
+is_retry (Ok Close) = false
+is_retry (Ok StopArb) = false
+is_retry (Ok Retried) = true
+is_retry (Ok Waiting) = false
+is_retry (Ok CancelAcknowledged) = false
+is_retry (Ok (Ended why)) = false
+is_retry (Ok NexusLoss) = false
+is_retry (Ok ConnectionLost) = false
+is_retry (Ok (Status byte)) = false
+is_retry (Err k) = false
 
-abbrev pub is_nexus_loss : Word → Bool
-is_nexus_loss Taken = false
-is_nexus_loss Submitted = false
-is_nexus_loss Nothing = false
-is_nexus_loss Send = false
-is_nexus_loss Open = false
-is_nexus_loss Close = false
-is_nexus_loss StopArb = false
-is_nexus_loss Retried = false
-is_nexus_loss Waiting = false
-is_nexus_loss CancelAcknowledged = false
-is_nexus_loss (Ended why) = false
-is_nexus_loss NexusLoss = true
-is_nexus_loss ConnectionLost = false
-is_nexus_loss (Status byte) = false
-is_nexus_loss (Refused k) = false
+abbrev pub is_nexus_loss : Result Word Refusal → Bool
+is_nexus_loss (Ok Taken) = false
+is_nexus_loss (Ok Submitted) = false
+is_nexus_loss (Ok Nothing) = false
+is_nexus_loss (Ok Send) = false
+is_nexus_loss (Ok Open) = false
+is_nexus_loss (Ok Close) = false
+is_nexus_loss (Ok StopArb) = false
+is_nexus_loss (Ok Retried) = false
+is_nexus_loss (Ok Waiting) = false
+is_nexus_loss (Ok CancelAcknowledged) = false
+is_nexus_loss (Ok (Ended why)) = false
+is_nexus_loss (Ok NexusLoss) = true
+is_nexus_loss (Ok ConnectionLost) = false
+is_nexus_loss (Ok (Status byte)) = false
+is_nexus_loss (Err k) = false
 
 -- 01 REFUSAL.5
 -- the time of the last call that was taken

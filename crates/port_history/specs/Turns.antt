@@ -1,5 +1,5 @@
 -- Document 01, 'Port': what one call does to the records: a request comes, a request leaves, or none does either. Assumes nothing.
-use Rattle.std.specs.Prelude.{ℕ, ◌<◌, ◌≡◌, true, false, List, ◌⊎◌, length, get_or}
+use Rattle.std.specs.Prelude.{ℕ, ◌<◌, ◌≡◌, true, false, List, ◌⊎◌, length, get_or, Ok}
 use Rattle.open_frame.specs.declared.Head.{Head}
 use Rattle.port_parts.specs.Parts.{ssp, no_slot, blank}
 use Rattle.port_parts.specs.declared.Request.{Request}
@@ -24,7 +24,7 @@ pub record Stays (a b : Request) : Type 0 where
 
 -- what the submit x was given stands in its answer a, and in the record r that comes by it
 pub record Given (x : Submission) (a : Answer) (r : Request) : Type 0 where
-  pub word : a.word ≡ Submitted
+  pub word : a.word ≡ Ok Submitted
   pub named : a.frame.head ≡ x.head
   pub head : r.head ≡ x.head
   pub time : r.submitted ≡ x.now

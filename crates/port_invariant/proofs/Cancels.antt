@@ -1,5 +1,6 @@
 -- Cancel frees a waiting request, and marks one in progress, whose phy goes on naming it: a phy with its frame out becomes a closing one.
 -- Assumes nothing.
+use Rattle.port_invariant.proofs.Spreads.{none_changes}
 use Prim.Native.Nat.{ℕ, ◌≤◌, ◌<◌}
 use mathlib.Core.Path.{◌≡◌, refl}
 use mathlib.Core.Bool.{true, false}
@@ -78,7 +79,7 @@ module _ (p : Port) (l : List Request) (size : length l ≡ 32) (eight : length 
         changed p l size eight was r.phy (closing_phy f) d.answer (marked r 1 r.closed) no_loss now (record {
           number = in_port;
           time = on;
-          timer = λ c. absurd (never c);
+          timer = λ y c. none_changes c;
           phy = closed_kept;
           linked = stay f (closing_phy f) r.phy r (marked r 1 r.closed) i refl refl refl (was.requests i low).paired.phy ((was.requests i low).paired.each r.phy in_port);
           entered = λ h. same_enters p l was i low there (marked r 1 r.closed) now refl refl (marked_present r p.last now on busy held);

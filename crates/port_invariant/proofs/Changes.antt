@@ -1,5 +1,6 @@
 -- A call changes one phy, one record and perhaps a destination's loss timer, and never turns the time back. So the rules hold afterwards
 -- if they hold of that phy and that record: everything else is as it was. Assumes nothing.
+use Rattle.std.specs.Prelude.{Option, Some}
 use Prim.Native.Nat.{ℕ, ◌≤◌, ◌<◌}
 use mathlib.Core.Path.{◌≡◌, refl, sym, subst, ◌∙◌}
 use mathlib.Core.Bool.{true, false}
@@ -27,7 +28,7 @@ use Rattle.port_invariant.proofs.Links.{On, Linked}
 use Rattle.port_invariant.proofs.Spreads.{apart_back, spread_stage, spread_phy, spread_present, spread_apart}
 
 -- what a call leaves that stores the record e and changes the timer x
-abbrev pub stored : Port → Answer → Request → Loss → Done
+abbrev pub stored : Port → Answer → Request → Option Loss → Done
 stored p a e x = record { port = p; answer = a; entry = e; loss = x; cleared = false }
 
 module _ (p : Port) (l : List Request) where
@@ -35,20 +36,20 @@ module _ (p : Port) (l : List Request) where
   at j = get_or l j blank
 
   -- the record e at slot i by itself, and beside the others
-  pub record Entered (i : ℕ) (e : Request) (x : Loss) (now : ℕ) : Type 0 where
+  pub record Entered (i : ℕ) (e : Request) (x : Option Loss) (now : ℕ) : Type 0 where
     pub present : Free e ⊎ Present e now
     pub apart : (Free e → ⊥) → (j : ℕ) → j < 32 → (j ≡ i → ⊥) → (Free (at j) → ⊥) → Apart e (spread x (at j))
 
   -- phy k becomes g, slot i, where it is one, becomes e, and the timer x changes
-  pub record Change (k : ℕ) (g : Phy) (i : ℕ) (e : Request) (x : Loss) (now : ℕ) : Type 0 where
+  pub record Change (k : ℕ) (g : Phy) (i : ℕ) (e : Request) (x : Option Loss) (now : ℕ) : Type 0 where
     pub number : k < 8
     pub time : p.last ≤ now
-    pub timer : x.change ≡ true → Dated now x.timer
+    pub timer : (y : Loss) → x ≡ Some y → Dated now y.timer
     pub phy : PhyKept p.count g k
     pub linked : Linked (phy_at p k) g k (at i) e i
     pub entered : i < 32 → Entered i e x now
 
-  module _ (size : length l ≡ 32) (eight : length p.phys ≡ 8) (was : Kept p l) (k : ℕ) (g : Phy) (a : Answer) (e : Request) (x : Loss) (now : ℕ) (c : Change k g a.slot e x now) (q : Port) where
+  module _ (size : length l ≡ 32) (eight : length p.phys ≡ 8) (was : Kept p l) (k : ℕ) (g : Phy) (a : Answer) (e : Request) (x : Option Loss) (now : ℕ) (c : Change k g a.slot e x now) (q : Port) where
     abbrev i : ℕ
     i = a.slot
 

@@ -1,5 +1,6 @@
 -- Choose joins a waiting request and a phy that names none, or closes such a phy for it; what it picks qualifies, since the pick is the
 -- right one. Assumes nothing.
+use Rattle.port_invariant.proofs.Spreads.{none_changes}
 use Prim.Native.Nat.{ℕ, ◌≤◌, ◌<◌}
 use mathlib.Core.Path.{◌≡◌, refl, sym, subst}
 use mathlib.Core.Logic.{inl, inr}
@@ -87,7 +88,7 @@ module _ (p : Port) (l : List Request) (size : length l ≡ 32) (eight : length 
         changed p l size eight was b.phy g a e no_loss now (record {
           number = in_port;
           time = on;
-          timer = λ c. absurd (never c);
+          timer = λ y c. none_changes c;
           phy = kept;
           linked = subst (λ (i : ℕ). Linked f g b.phy (get_or l i blank) e i) (sym same) linked;
           entered = λ h. subst (λ (i : ℕ). Entered p l i e no_loss now) (sym same) (same_enters p l was b.slot in_list there e now head loss full);

@@ -1,5 +1,6 @@
 -- The record that a call stores is beside the others as the rules ask: a free one has nothing to keep, one with its old head and timer is
 -- as the old one was, and one that changes its destination's timer hands it to every request of that destination. Assumes nothing.
+use Rattle.std.specs.Prelude.{Option}
 use Prim.Native.Nat.{ℕ, ◌≤◌, ◌<◌}
 use mathlib.Core.Path.{◌≡◌, refl, sym, subst}
 use mathlib.Core.Bool.{Bool, true, false}
@@ -24,7 +25,7 @@ module _ (p : Port) (l : List Request) where
   abbrev at : ℕ → Request
   at j = get_or l j blank
 
-  pub free_enters : (i : ℕ) (x : Loss) (now : ℕ) → Entered p l i blank x now
+  pub free_enters : (i : ℕ) (x : Option Loss) (now : ℕ) → Entered p l i blank x now
   free_enters i x now = record { present = inl refl; apart = λ off. absurd (off refl) }
 
   module _ (was : Kept p l) (i : ℕ) (low : i < 32) (there : Free (at i) → ⊥) where

@@ -1,4 +1,5 @@
 -- A call that changes no phy is a change of a phy to what it is, so the same law serves it. Assumes nothing.
+use Rattle.port_invariant.proofs.Spreads.{none_changes}
 use Prim.Native.Nat.{ℕ, ◌≤◌, ◌<◌}
 use mathlib.Core.Path.{◌≡◌, subst}
 use mathlib.Core.List.{List}
@@ -26,7 +27,7 @@ module _ (p : Port) (l : List Request) (size : length l ≡ 32) (eight : length 
       (changed p l size eight was 0 (phy_at p 0) a e no_loss now (record {
         number = omega arith;
         time = on;
-        timer = λ c. absurd (never c);
+        timer = λ y c. none_changes c;
         phy = was.phys 0 (omega arith);
         linked = aside (phy_at p 0) 0 (get_or l a.slot blank) e a.slot waits rests (λ h. (was.requests a.slot h).paired.each 0 (omega arith));
         entered = entered;

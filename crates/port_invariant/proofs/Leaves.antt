@@ -1,5 +1,6 @@
 -- A call leaves the state where it is refused; else its causes were all passed, and it leaves what its core does. So what holds of the
 -- state before, and of what the core leaves, holds of what the call leaves. Assumes nothing.
+use Rattle.std.specs.Prelude.{Err, Result}
 use mathlib.Core.Path.{◌≡◌, refl, sym, ap, subst, ◌∙◌}
 use mathlib.Core.Bool.{Bool, true, false, cond}
 use mathlib.Core.List.{List, [], ◌∷◌}
@@ -14,7 +15,6 @@ use Rattle.port_parts.specs.declared.Request.{Request}
 use Rattle.port_rows.specs.Answers.{nameless, refused_by}
 use Rattle.port_rows.specs.declared.Done.{Done}
 use Rattle.port_rows.specs.declared.Word.{Word}
-use Rattle.port_rows.specs.declared.Word.TheVariants.{Refused}
 use Rattle.port.specs.Calls.{on32, left_of, answered, short}
 use Rattle.port.specs.History.{State, Call, done_of, short_of, Does, stepped_by, is_refused, leave, Entry, entries_of}
 use Rattle.port.specs.declared.Stepped.{Stepped}
@@ -59,7 +59,7 @@ module _ (c : Call) (s : State) where
       by true e = goes (eqb-true (length l) 32 e)
       by false e = subst (λ (r : Stepped). P r l) (sym (short_is c s)) stays
 
-  abbrev said : Word
+  abbrev said : Result Word Refusal
   said = (stepped_by c s).answer.word
 
   pub when_taken : (P : Stepped → List Request → Type 0) → (length l ≡ 32 → is_refused (done_of c s).answer.word ≡ false → P (answered (done_of c s)) (left_of l (done_of c s))) → is_refused said ≡ false
@@ -95,7 +95,7 @@ module _ (c : Call) (s : State) where
       ∙ (λ i. record { port = (sym p.0 i).port; list = sym p.1 i })
 
   -- a refused call leaves the port that it was lent, and every record, and names nothing but its number
-  pub refused_so : (k : Refusal) (r : Stepped) (after : List Request) → Does c s r after → r.answer.word ≡ Refused k → (r.port ≡ lent) × ((after ≡ l) × (r.answer ≡ nameless (Refused k)))
+  pub refused_so : (k : Refusal) (r : Stepped) (after : List Request) → Does c s r after → r.answer.word ≡ Err k → (r.port ≡ lent) × ((after ≡ l) × (r.answer ≡ nameless (Err k)))
   refused_so k r after p e =
       let stays = when_refused (λ (q : Stepped) (m : List Request). (q.port ≡ lent) × ((m ≡ l) × (q.answer ≡ nameless q.answer.word))) (λ j. (refl, (refl, refl))) (ap (λ (q : Stepped). is_refused q.answer.word) (sym p.0) ∙ ap is_refused e) in (
         ap (λ (q : Stepped). q.port) p.0 ∙ stays.0,

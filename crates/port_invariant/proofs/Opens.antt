@@ -1,7 +1,8 @@
 -- Opened and Open Failed: the confirmations of an opening phy. Both may change the loss timer of the request's destination, which then
 -- reaches every SSP request to it. Assumes nothing.
+use Rattle.port_rows.specs.declared.Loss.{Loss}
 use Prim.Native.Nat.{ℕ, ◌≤◌, ◌<◌}
-use mathlib.Core.Path.{◌≡◌, refl, ap}
+use mathlib.Core.Path.{◌≡◌, refl, ap, subst, sym}
 use mathlib.Core.Bool.{Bool, true, false, not, cond, ◌&&◌}
 use mathlib.Core.Logic.{◌⊎◌, inl, inr}
 use mathlib.Core.List.{List}
@@ -29,7 +30,7 @@ use Rattle.port_invariant.proofs.Enters.{free_enters, timed_enters}
 use Rattle.port_invariant.proofs.Holds.{Dated, dated_none, dated_now, old_first, old_loss, present_as, present_timed, busy_kept, in_port, phy_kept, on_it, its_present}
 use Rattle.port_invariant.proofs.Links.{stay}
 use Rattle.port_invariant.proofs.Parted.{parted, unconnected_kept}
-use Rattle.port_invariant.proofs.Spreads.{Follows}
+use Rattle.port_invariant.proofs.Spreads.{Follows, of_loss}
 
 -- a timer that may stand in the record r from `now` on
 pub record Fits (r : Request) (now : ℕ) (t : Stamp) : Type 0 where
@@ -82,7 +83,7 @@ module _ (p : Port) (l : List Request) (size : length l ≡ 32) (eight : length 
   pub failed_keeps : (why : Reason) → Kept (failed p f r why k now).port (left_of l (failed p f r why k now))
   failed_keeps why =
       parted p l size eight was k now low on unconnected_phy (unconnected_kept p l size eight was k now low on) (λ h. omega arith) (failed p f r why k now).answer refl (cond (is_again p r why now) (again r why now t) blank)
-      (by_test (λ (e : Request). e.stage ≡ 2 → ⊥) (is_again p r why now) (λ s e. omega arith) (λ s e. omega arith)) (loss_by r t) (λ e. fits.dated)
+      (by_test (λ (e : Request). e.stage ≡ 2 → ⊥) (is_again p r why now) (λ s e. omega arith) (λ s e. omega arith)) (loss_by r t) (λ y e. subst (Dated now) (sym (ap (λ (z : Loss). z.timer) (of_loss r t e).1)) fits.dated)
       (λ h. by_test (λ (e : Request). Entered p l f.slot e (loss_by r t) now) (is_again p r why now) (λ s. retried (not-true (is_cancelled r) (and_left (not (is_cancelled r)) _ s))) (λ s. free_enters p l f.slot (loss_by r t) now))
       (failed p f r why k now).port
     where
@@ -110,7 +111,7 @@ module _ (p : Port) (l : List Request) (size : length l ≡ 32) (eight : length 
       changed p l size eight was k g d.answer e (loss_by r no_stamp) now (record {
         number = in_port p l was k low;
         time = on;
-        timer = λ c. dated_none now;
+        timer = λ y c. subst (Dated now) (sym (ap (λ (z : Loss). z.timer) (of_loss r no_stamp c).1)) (dated_none now);
         phy = joined_kept;
         linked = stay f g k r e f.slot refl refl refl (was.requests f.slot named).paired.phy ((was.requests f.slot named).paired.each k (in_port p l was k low));
         entered = λ h.

@@ -1,5 +1,7 @@
 -- A phy's calls that leave it with no request: enable, disable, Closed and the frame status. The phy names none afterwards, and the
 -- request that it named, if any, is gone or waits. Assumes nothing.
+use Rattle.port_invariant.proofs.Spreads.{none_changes}
+use Rattle.std.specs.Prelude.{Option, Some}
 use Prim.Native.Nat.{ℕ, ◌≤◌, ◌<◌}
 use mathlib.Core.Path.{◌≡◌, refl, subst}
 use mathlib.Core.Bool.{true, false, cond}
@@ -44,7 +46,7 @@ module _ (p : Port) (l : List Request) (size : length l ≡ 32) (eight : length 
   x = record { phy = k; now = now }
 
   -- the phy becomes g, which names none, and its request becomes e
-  pub parted : (g : Phy) → PhyKept p.count g k → (g.slot < 32 → ⊥) → (a : Answer) → f.slot ≡ a.slot → (e : Request) → (e.stage ≡ 2 → ⊥) → (x : Loss) → (x.change ≡ true → Dated now x.timer)
+  pub parted : (g : Phy) → PhyKept p.count g k → (g.slot < 32 → ⊥) → (a : Answer) → f.slot ≡ a.slot → (e : Request) → (e.stage ≡ 2 → ⊥) → (x : Option Loss) → ((y : Loss) → x ≡ Some y → Dated now y.timer)
       → (a.slot < 32 → Entered p l a.slot e x now) → (q : Port) → Kept (with_phy p k g now) (left_of l (stored q a e x))
   parted g kept still a same e rests x timer entered q =
       changed p l size eight was k g a e x now (record {
@@ -58,7 +60,7 @@ module _ (p : Port) (l : List Request) (size : length l ≡ 32) (eight : length 
 
   -- ... with every timer as it was, and its request gone
   emptied : (g : Phy) → PhyKept p.count g k → (g.slot < 32 → ⊥) → (a : Answer) → f.slot ≡ a.slot → (q : Port) → Kept (with_phy p k g now) (left_of l (stored q a blank no_loss))
-  emptied g kept still a same q = parted g kept still a same blank (λ e. absurd (omega arith)) no_loss (λ e. absurd (never e)) (λ h. free_enters p l a.slot no_loss now) q
+  emptied g kept still a same q = parted g kept still a same blank (λ e. absurd (omega arith)) no_loss (λ y e. none_changes e) (λ h. free_enters p l a.slot no_loss now) q
 
   pub unconnected_kept : PhyKept p.count unconnected_phy k
   unconnected_kept = rests_kept p.count unconnected_phy k low (omega arith) (omega arith) refl (no_need unconnected_phy 1 refl (λ e. omega arith) (λ e. omega arith) (λ e. omega arith))
@@ -94,7 +96,7 @@ module _ (p : Port) (l : List Request) (size : length l ≡ 32) (eight : length 
   pub disable_keeps : Kept (disabled_done p f r x).port (left_of l (disabled_done p f r x))
   disable_keeps =
       parted disabled_phy off_kept (λ h. omega arith) (disabled_done p f r x).answer refl (cond (is_cancelled r) blank (placed r 1 0))
-      (by_test (λ (e : Request). e.stage ≡ 2 → ⊥) (is_cancelled r) (λ t e. omega arith) (λ t e. omega arith)) no_loss (λ e. absurd (never e))
+      (by_test (λ (e : Request). e.stage ≡ 2 → ⊥) (is_cancelled r) (λ t e. omega arith) (λ t e. omega arith)) no_loss (λ y e. none_changes e)
       (λ h. by_test (λ (e : Request). Entered p l f.slot e no_loss now) (is_cancelled r) (λ t. free_enters p l f.slot no_loss now) (λ t. waits h t)) (disabled_done p f r x).port
     where
       waits : f.slot < 32 → is_cancelled r ≡ false → Entered p l f.slot (placed r 1 0) no_loss now

@@ -1,8 +1,9 @@
 -- A destination's loss timer reaches all of its SSP requests or none, and changes nothing else of a record; so requests that were apart
 -- stay apart. Assumes nothing.
+use Rattle.std.specs.Prelude.{Option, Some, None, is_some}
 use Prim.Native.Nat.{ℕ, ◌≤◌}
-use mathlib.Core.Path.{◌≡◌, refl, sym, subst, ◌∙◌}
-use mathlib.Core.Bool.{Bool, true, false, not, ◌&&◌}
+use mathlib.Core.Path.{◌≡◌, refl, sym, subst, ◌∙◌, ap}
+use mathlib.Core.Bool.{Bool, true, false, not, ◌&&◌, cond}
 use mathlib.Core.Logic.{inl}
 use lib.Dec.{eqb}
 use borrow.Author.Tests.{eqb-true, eq-eqb}
@@ -40,45 +41,75 @@ apart_back a b off =
 
 -- ---- what a timer that changes leaves of a record
 
-module _ (x : Loss) where
+abbrev or_else : Loss → Option Loss → Loss
+or_else y None = y
+or_else y (Some z) = z
+
+pub one_loss : {y z : Loss} → ◌≡◌ {A = Option Loss} (Some y) (Some z) → y ≡ z
+one_loss {y} e = ap (or_else y) e
+
+-- no timer changes
+pub none_changes : {A : Type 0} {y : Loss} → ◌≡◌ {A = Option Loss} None (Some y) → A
+none_changes e = absurd (never (ap is_some e))
+
+-- the timer that changes where r's becomes t
+pub of_loss : (r : Request) (t : Stamp) {y : Loss} → loss_by r t ≡ Some y → (is_ssp r.head && not (eqb r.loss.set t.set) ≡ true) × (y ≡ record { destination = r.head.destination; timer = t })
+of_loss r t {y} e = by (is_ssp r.head && not (eqb r.loss.set t.set)) e
+  where
+    by : (u : Bool) → ◌≡◌ {A = Option Loss} (cond u (Some (record { destination = r.head.destination; timer = t })) None) (Some y) → (u ≡ true) × (y ≡ record { destination = r.head.destination; timer = t })
+    by true s = (refl, sym (one_loss s))
+    by false s = none_changes s
+
+module _ (x : Option Loss) where
   -- r gets the timer
-  abbrev pub Reached : Request → Type 0
-  Reached r = (x.change ≡ true) × ((Free r → ⊥) × ((r.head.protocol ≡ 1) × (r.head.destination ≡ x.destination)))
+  pub record Reached (r : Request) : Type 0 where
+    pub loss : Loss
+    pub is : x ≡ Some loss
+    pub there : Free r → ⊥
+    pub ssp : r.head.protocol ≡ 1
+    pub same : r.head.destination ≡ loss.destination
 
-  abbrev reach : Request → Bool
-  reach r = x.change && (not (is_free r) && (is_ssp r.head && eqb r.head.destination x.destination))
+abbrev reach : Loss → Request → Bool
+reach y r = not (is_free r) && (is_ssp r.head && eqb r.head.destination y.destination)
 
-  reach_says : (r : Request) → Says (reach r) (Reached r)
-  reach_says r = both (itself x.change) (both (unless (equal r.stage 0)) (both (equal r.head.protocol 1) (equal r.head.destination x.destination)))
+reach_says : (y : Loss) (r : Request) → Says (reach y r) ((Free r → ⊥) × ((r.head.protocol ≡ 1) × (r.head.destination ≡ y.destination)))
+reach_says y r = both (unless (equal r.stage 0)) (both (equal r.head.protocol 1) (equal r.head.destination y.destination))
 
-  pub by_spread : (P : Request → Type 0) (r : Request) → (Reached r → P (timed r x.timer)) → ((Reached r → ⊥) → P r) → P (spread x r)
-  by_spread P r f g = by_test P (reach r) (λ e. f ((reach_says r).0 e)) (λ e. g (λ h. never (sym e ∙ (reach_says r).1 h)))
+pub by_spread : (x : Option Loss) (P : Request → Type 0) (r : Request) → ((h : Reached x r) → P (timed r h.loss.timer)) → ((Reached x r → ⊥) → P r) → P (spread x r)
+by_spread None P r f g = g (λ h. none_changes h.is)
+by_spread (Some y) P r f g =
+    by_test P (reach y r) (λ e. let h = (reach_says y r).0 e in f (record { loss = y; is = refl; there = h.0; ssp = h.1.0; same = h.1.1 }))
+    (λ e. g (λ h. never (sym e ∙ (reach_says y r).1 (h.there, (h.ssp, h.same ∙ ap (λ (z : Loss). z.destination) (sym (one_loss h.is)))))))
 
+module _ (x : Option Loss) where
   pub spread_stage : (r : Request) → (spread x r).stage ≡ r.stage
-  spread_stage r = by_spread (λ (s : Request). s.stage ≡ r.stage) r (λ h. refl) (λ h. refl)
+  spread_stage r = by_spread x (λ (s : Request). s.stage ≡ r.stage) r (λ h. refl) (λ h. refl)
 
   pub spread_phy : (r : Request) → (spread x r).phy ≡ r.phy
-  spread_phy r = by_spread (λ (s : Request). s.phy ≡ r.phy) r (λ h. refl) (λ h. refl)
+  spread_phy r = by_spread x (λ (s : Request). s.phy ≡ r.phy) r (λ h. refl) (λ h. refl)
 
   -- a request stays one, at a later time
-  pub spread_present : (r : Request) (last now : ℕ) → last ≤ now → (x.change ≡ true → Dated now x.timer) → Present r last → Present (spread x r) now
+  pub spread_present : (r : Request) (last now : ℕ) → last ≤ now → ((y : Loss) → x ≡ Some y → Dated now y.timer) → Present r last → Present (spread x r) now
   spread_present r last now on timer was =
-      by_spread (λ (s : Request). Present s now) r
-      (λ h. present_timed r last now on was x.timer (timer h.0) (inl h.1.1.0))
+      by_spread x (λ (s : Request). Present s now) r
+      (λ h. present_timed r last now on was h.loss.timer (timer h.loss h.is) (inl h.ssp))
       (λ h. present_later r last now on was)
 
   -- two requests stay apart: of one destination both get the timer or none does
   pub spread_apart : (a b : Request) → (Free a → ⊥) → (Free b → ⊥) → Apart a b → Apart (spread x a) (spread x b)
-  spread_apart a b there other off = by_spread (λ (s : Request). Apart s (spread x b)) a (λ h. by_spread (Apart (timed a x.timer)) b (reached h) (first h)) (λ h. by_spread (Apart a) b (second h) (λ g. off))
+  spread_apart a b there other off =
+      by_spread x (λ (s : Request). Apart s (spread x b)) a (λ h. by_spread x (Apart (timed a h.loss.timer)) b (reached h) (first h)) (λ h. by_spread x (Apart a) b (second h) (λ g. off))
     where
-      reached : Reached a → Reached b → Apart (timed a x.timer) (timed b x.timer)
-      reached h g = record { keys = off.keys; timers = λ n. same_timer x.timer }
+      reached : (h : Reached x a) (g : Reached x b) → Apart (timed a h.loss.timer) (timed b g.loss.timer)
+      reached h g =
+          let one : h.loss ≡ g.loss = one_loss (sym h.is ∙ g.is) in
+          record { keys = off.keys; timers = λ n. subst (λ (y : Loss). SameTimer h.loss.timer y.timer) one (same_timer h.loss.timer) }
 
-      first : Reached a → (Reached b → ⊥) → Apart (timed a x.timer) b
-      first h g = record { keys = off.keys; timers = λ n. absurd (g (h.0, (other, (n.1.1, sym n.0 ∙ h.1.1.1)))) }
+      first : (h : Reached x a) → (Reached x b → ⊥) → Apart (timed a h.loss.timer) b
+      first h g = record { keys = off.keys; timers = λ n. absurd (g (record { loss = h.loss; is = h.is; there = other; ssp = n.1.1; same = sym n.0 ∙ h.same })) }
 
-      second : (Reached a → ⊥) → Reached b → Apart a (timed b x.timer)
-      second h g = record { keys = off.keys; timers = λ n. absurd (h (g.0, (there, (n.1.0 ∙ n.1.1, n.0 ∙ g.1.1.1)))) }
+      second : (Reached x a → ⊥) → (g : Reached x b) → Apart a (timed b g.loss.timer)
+      second h g = record { keys = off.keys; timers = λ n. absurd (h (record { loss = g.loss; is = g.is; there = there; ssp = n.1.0 ∙ n.1.1; same = n.0 ∙ g.same })) }
 
 -- ---- the request that changes a timer, and the others of its destination
 
@@ -90,7 +121,7 @@ Follows u t = u.set ≡ 1 → t.set ≡ 1 → t.at ≡ u.at
 pub own_apart : (r e : Request) (t : Stamp) (b : Request) → (Free b → ⊥) → Follows r.loss t → e.head ≡ r.head → (r.head.protocol ≡ 1 → e.loss ≡ t) → Apart r b → Apart e (spread (loss_by r t) b)
 own_apart r e t b other follows head timed-so off = by_spread x (Apart e) b reached same
   where
-    x : Loss
+    x : Option Loss
     x = loss_by r t
 
     keys : SameKey e.head b.head → ⊥
@@ -99,12 +130,13 @@ own_apart r e t b other follows head timed-so off = by_spread x (Apart e) b reac
     nexus : SameNexus e.head b.head → SameNexus r.head b.head
     nexus n = subst (λ (h : Head). SameNexus h b.head) head n
 
-    reached : Reached x b → Apart e (timed b t)
+    reached : (h : Reached x b) → Apart e (timed b h.loss.timer)
     reached h =
-        record {
+        subst (λ (u : Stamp). Apart e (timed b u)) (sym (ap (λ (y : Loss). y.timer) (of_loss r t h.is).1))
+        (record {
           keys = keys;
           timers = λ n. let same = nexus n in subst (λ (s : Stamp). SameTimer s t) (sym (timed-so (same.1.0 ∙ same.1.1))) (same_timer t);
-        }
+        })
 
     -- with no change the timer runs on, or it stays off
     on : SameNexus r.head b.head → (Reached x b → ⊥) → SameTimer t b.loss
@@ -118,7 +150,14 @@ own_apart r e t b other follows head timed-so off = by_spread x (Apart e) b reac
           where
             by : (u : Bool) → eqb r.loss.set t.set ≡ u → r.loss.set ≡ t.set
             by true e = eqb-true r.loss.set t.set e
-            by false e = absurd (h ((λ i. eq-eqb r.head.protocol 1 (n.1.0 ∙ n.1.1) i && not (e i)), (other, (n.1.1, sym n.0))))
+            by false e =
+                absurd (h (record {
+                  loss = record { destination = r.head.destination; timer = t };
+                  is = λ i. cond (eq-eqb r.head.protocol 1 (n.1.0 ∙ n.1.1) i && not (e i)) (Some (record { destination = r.head.destination; timer = t })) None;
+                  there = other;
+                  ssp = n.1.1;
+                  same = sym n.0;
+                }))
 
     same : (Reached x b → ⊥) → Apart e b
     same h =

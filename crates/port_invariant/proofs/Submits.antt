@@ -1,5 +1,6 @@
 -- Submit fills a free slot with a request that no other shares its key with, and gives it the loss timer of its destination: that of
 -- some request to it, which the rules say is every one's. Assumes nothing.
+use Rattle.std.specs.Prelude.{Ok}
 use Prim.Native.Nat.{ℕ, zero, suc, ◌≤◌, ◌<◌}
 use mathlib.Core.Path.{◌≡◌, refl, sym, subst, ◌∙◌}
 use mathlib.Core.Bool.{Bool, true, false, not, cond, ◌&&◌}
@@ -119,8 +120,8 @@ module _ (p : Port) (l : List Request) (size : length l ≡ 32) (eight : length 
         timers = λ n. mates_timer l x.head p was v.loss (room_timer l x.head) j h (there, nexus_back x.head (get_or l j blank).head n);
       }
 
-  pub submit_keeps : (Shares l x.head → ⊥) → (v.free < 32 → Free (get_or l v.free blank)) → let d = stored (later p x.now) (said Submitted v.free 8 e) e no_loss in Kept d.port (left_of l d)
+  pub submit_keeps : (Shares l x.head → ⊥) → (v.free < 32 → Free (get_or l v.free blank)) → let d = stored (later p x.now) (said (Ok Submitted) v.free 8 e) e no_loss in Kept d.port (left_of l d)
   submit_keeps absent free =
-      let d = stored (later p x.now) (said Submitted v.free 8 e) e no_loss in
+      let d = stored (later p x.now) (said (Ok Submitted) v.free 8 e) e no_loss in
       waits_on p l size eight was d.answer e x.now on (λ h busy. let f = free h in omega arith) (λ c. omega arith)
       (λ h. record { present = inr new_present; apart = λ off j m n there. new_apart absent j m there }) d.port

@@ -1,4 +1,5 @@
 -- A state that keeps the rules has no ground for refusal 3, so after an accepted setup no call is refused for a state that breaks its rules. Assumes nothing.
+use Rattle.std.specs.Prelude.{Err}
 use mathlib.Core.Path.{◌≡◌, refl, subst}
 use mathlib.Core.Bool.{Bool, true, false}
 use mathlib.Core.List.{List, [], ◌∷◌}
@@ -9,7 +10,6 @@ use Rattle.refusals.specs.Causes.{Ground, First, here, later}
 use Rattle.refusals.specs.Refusals.{number_of}
 use Rattle.refusals.specs.declared.Refusal.{Refusal}
 use Rattle.port_rules.specs.Kept.{Kept}
-use Rattle.port_rows.specs.declared.Word.TheVariants.{Refused}
 use Rattle.port.specs.Grounds.{grounds_of}
 use Rattle.port.specs.History.{State, Call, setup, submit, cancel, choose, opened, open_failed, frame_status, closed, enable, disable, stepped_by, is_refused, run}
 use Rattle.port.proofs.Refusals.{refused_exactly}
@@ -45,9 +45,9 @@ module _ (s : State) (rules : Kept s.port s.list) where
   unbroken (disable x) range = (tt, (λ broken. broken rules, (tt, (tt, (tt, tt)))))
 
   -- a state that keeps the rules gives no refusal 3
-  pub no_three : (c : Call) → Ranged c → (stepped_by c s).answer.word ≡ Refused Refusal.Rules → ⊥
+  pub no_three : (c : Call) → Ranged c → (stepped_by c s).answer.word ≡ Err Refusal.Rules → ⊥
   no_three c range e = not_first Refusal.Rules (grounds_of c s) (unbroken c range) ((refused_exactly c s Refusal.Rules).0 e)
 
 pub never_three_since : (count loss : ℕ) (s : State) → is_refused (stepped_by (setup count loss) s).answer.word ≡ false → (cs : List Call) (c : Call) → Ranged c
-    → (stepped_by c (run (setup count loss ∷ cs) s)).answer.word ≡ Refused Refusal.Rules → ⊥
+    → (stepped_by c (run (setup count loss ∷ cs) s)).answer.word ≡ Err Refusal.Rules → ⊥
 never_three_since count loss s accepted cs c range = no_three (run (setup count loss ∷ cs) s) (kept_since count loss s accepted cs) c range

@@ -1,5 +1,9 @@
 -- An Open Failed that doesn't stop a running loss timer leaves every request with the timer that it had: no timer changes, and the request
 -- that it is about waits again with its own, or leaves. Assumes nothing.
+use Rattle.std.specs.Prelude.{Option, Some, None}
+use Rattle.port_rows.specs.Records.{spread}
+use Rattle.port_rows.specs.declared.Loss.{Loss}
+use Rattle.port_invariant.proofs.Spreads.{none_changes}
 use Prim.Native.Nat.{ℕ, ◌<◌}
 use mathlib.Core.Path.{◌≡◌, refl, sym, ap, ◌∙◌}
 use mathlib.Core.Bool.{Bool, true, false, cond, ◌&&◌}
@@ -42,13 +46,13 @@ module _ (s : State) (x : Failure) (ssp : is_ssp (on_phy s.list s.port x.phy).he
   d = failed s.port f r why x.phy x.now
 
   -- record i, which is the named one where u
-  kept_at : (i : ℕ) (u v change rest : Bool) → eqb i f.slot ≡ u → change ≡ false
-      → (Free (cond u (cond v (again r why x.now (timer_after r why x.now)) blank) (cond (change && rest) (timed (get_or l i blank) (timer_after r why x.now)) (get_or l i blank))) → ⊥)
-      → (cond u (cond v (again r why x.now (timer_after r why x.now)) blank) (cond (change && rest) (timed (get_or l i blank) (timer_after r why x.now)) (get_or l i blank))).loss ≡ (get_or l i blank).loss
-  kept_at i true true change rest e same there = timer_stays r why x.now ssp running going ∙ ap (λ (n : ℕ). (get_or l n blank).loss) (sym (eqb-true i f.slot e))
-  kept_at i true false change rest e same there = absurd (there refl)
-  kept_at i false v true rest e same there = absurd (never (sym same))
-  kept_at i false v false rest e same there = refl
+  kept_at : (i : ℕ) (u v : Bool) (o : Option Loss) → eqb i f.slot ≡ u → o ≡ None
+      → (Free (cond u (cond v (again r why x.now (timer_after r why x.now)) blank) (spread o (get_or l i blank))) → ⊥)
+      → (cond u (cond v (again r why x.now (timer_after r why x.now)) blank) (spread o (get_or l i blank))).loss ≡ (get_or l i blank).loss
+  kept_at i true true o e same there = timer_stays r why x.now ssp running going ∙ ap (λ (n : ℕ). (get_or l n blank).loss) (sym (eqb-true i f.slot e))
+  kept_at i true false o e same there = absurd (there refl)
+  kept_at i false v (Some y) e same there = none_changes (sym same)
+  kept_at i false v None e same there = refl
 
   -- 01 TRAP.3
   pub timers_run_on : (i : ℕ) → i < 32 → (Free (get_or (leave (open_failed x) s).list i blank) → ⊥) → (get_or (leave (open_failed x) s).list i blank).loss ≡ (get_or l i blank).loss
@@ -58,4 +62,4 @@ module _ (s : State) (x : Failure) (ssp : is_ssp (on_phy s.list s.port x.phy).he
       (λ size passed i h there.
       let at = left_at l d i size h in
       ap (λ (q : Request). q.loss) at
-      ∙ kept_at i (eqb i f.slot) (is_again s.port r why x.now) _ _ refl (unchanged_by r why x.now ssp running going) (λ free. there (ap (λ (q : Request). q.stage) at ∙ free)))
+      ∙ kept_at i (eqb i f.slot) (is_again s.port r why x.now) _ refl (unchanged_by r why x.now ssp running going) (λ free. there (ap (λ (q : Request). q.stage) at ∙ free)))

@@ -1,5 +1,6 @@
 -- What the calls leave, by the tests that tell their ways apart: Cancel's by whether the request waits, choose's by the step of its pick.
 -- Assumes nothing.
+use Rattle.std.specs.Prelude.{Ok}
 use Prim.Native.Nat.{ℕ}
 use mathlib.Core.Path.{◌≡◌}
 use mathlib.Core.Bool.{Bool, true, false, not, cond, ◌&&◌}
@@ -26,40 +27,40 @@ use Rattle.port.specs.History.{State}
 
 abbrev pub submitted_to : State → Submission → Done
 submitted_to s x =
-    stored (later s.port x.now) (said Submitted (room_of s.list x.head).free 8 (submitted (room_of s.list x.head) x)) (submitted (room_of s.list x.head) x) no_loss
+    stored (later s.port x.now) (said (Ok Submitted) (room_of s.list x.head).free 8 (submitted (room_of s.list x.head) x)) (submitted (room_of s.list x.head) x) no_loss
 
 -- a Cancel of a waiting request, and of one in progress while opening or not
 abbrev pub ended_by : Port → Request → ℕ → ℕ → Done
-ended_by p r k now = ended (later p now) (said CancelAcknowledged k 8 r)
+ended_by p r k now = ended (later p now) (said (Ok CancelAcknowledged) k 8 r)
 
 abbrev pub stopped_by : Port → Request → ℕ → ℕ → Bool → Done
-stopped_by p r k now t = stored (with_phy p r.phy (closing_phy (phy_at p r.phy)) now) (said (cond t StopArb Close) k r.phy r) (marked r 1 r.closed) no_loss
+stopped_by p r k now t = stored (with_phy p r.phy (closing_phy (phy_at p r.phy)) now) (said (cond t (Ok StopArb) (Ok Close)) k r.phy r) (marked r 1 r.closed) no_loss
 
 -- cancelled
 abbrev pub opened_by : Port → Phy → Request → Confirmed → Bool → Done
 opened_by p f r x t =
-    stored (with_phy p x.phy (joined_phy (cond t 5 4) f.slot r.head) x.now) (said (cond t Close Send) f.slot x.phy r) (timed r (cond (is_ssp r.head) no_stamp r.loss)) (loss_by r no_stamp)
+    stored (with_phy p x.phy (joined_phy (cond t 5 4) f.slot r.head) x.now) (said (cond t (Ok Close) (Ok Send)) f.slot x.phy r) (timed r (cond (is_ssp r.head) no_stamp r.loss)) (loss_by r no_stamp)
 
 -- cancelled, retried, lost
 abbrev pub failed_by : Port → Phy → Request → Reason → ℕ → ℕ → Bool → Bool → Bool → Done
 failed_by p f r why k now t u v =
-    stored (with_phy p k unconnected_phy now) (said (cond t CancelAcknowledged (cond (not u) (Ended why) (cond v NexusLoss Retried))) f.slot k r) (cond (not t && (u && not v)) (again r why now (timer_after r why now)) blank) (loss_by r (timer_after r why now))
+    stored (with_phy p k unconnected_phy now) (said (cond t (Ok CancelAcknowledged) (cond (not u) (Ok (Ended why)) (cond v (Ok NexusLoss) (Ok Retried)))) f.slot k r) (cond (not t && (u && not v)) (again r why now (timer_after r why now)) blank) (loss_by r (timer_after r why now))
 
 -- cancelled
 abbrev pub framed_by : Port → Phy → Request → Report → Bool → Done
 framed_by p f r x t =
-    ended (with_phy p x.phy (staged_phy (cond (is_sending f) 3 5) 32 f) x.now) (said (cond t CancelAcknowledged (Status x.status)) f.slot x.phy r)
+    ended (with_phy p x.phy (staged_phy (cond (is_sending f) 3 5) 32 f) x.now) (said (cond t (Ok CancelAcknowledged) (Ok (Status x.status))) f.slot x.phy r)
 
 -- the phy names a request, which is cancelled
 abbrev pub closed_by : Port → Phy → Request → Confirmed → Bool → Bool → Done
-closed_by p f r x n t = ended (with_phy p x.phy unconnected_phy x.now) (said (cond n (cond t CancelAcknowledged ConnectionLost) Taken) f.slot x.phy r)
+closed_by p f r x n t = ended (with_phy p x.phy unconnected_phy x.now) (said (cond n (cond t (Ok CancelAcknowledged) (Ok ConnectionLost)) (Ok Taken)) f.slot x.phy r)
 
 abbrev pub disabled_by : Port → Phy → Request → Confirmed → Bool → Bool → Done
 disabled_by p f r x n t =
-    stored (with_phy p x.phy disabled_phy x.now) (said (cond n (cond t CancelAcknowledged Waiting) Taken) f.slot x.phy r) (cond t blank (placed r 1 0)) no_loss
+    stored (with_phy p x.phy disabled_phy x.now) (said (cond n (cond t (Ok CancelAcknowledged) (Ok Waiting)) (Ok Taken)) f.slot x.phy r) (cond t blank (placed r 1 0)) no_loss
 
 abbrev pub enabled_by : Port → Request → Confirmed → Done
-enabled_by p r x = ended (with_phy p x.phy unconnected_phy x.now) (said Taken 32 x.phy r)
+enabled_by p r x = ended (with_phy p x.phy unconnected_phy x.now) (said (Ok Taken) 32 x.phy r)
 
 -- ---- what holds of every way holds of the call
 

@@ -1,5 +1,6 @@
 -- What C lends says what the machine has, call after call: a taken call shows its port, which says it again, and a refused one leaves all as it
 -- was lent. Assumes nothing.
+use Rattle.std.specs.Prelude.{Result}
 use mathlib.Core.Bool.{Bool, true, false, cond}
 use mathlib.Core.List.{List, [], ◌∷◌}
 use mathlib.Core.Logic.{◌↔◌}
@@ -23,7 +24,7 @@ use Rattle.port_lent.proofs.Words.{refusal_told, refusal_exactly}
 
 -- ---- what is seen of a call
 
-abbrev pub said : Call → Lent → Word
+abbrev pub said : Call → Lent → Result Word Refusal
 said c s = (stepped_by c (state_of s)).answer.word
 
 -- C's number tells a refusal

@@ -1,5 +1,5 @@
 -- What C sees of the port's calls: the machine's own call on the port that the numbers say. Assumes nothing.
-use Rattle.std.specs.Prelude.{cond, List, ◌≡◌}
+use Rattle.std.specs.Prelude.{cond, List, ◌≡◌, Result}
 use Rattle.refusals.specs.Refusals.{number_of}
 use Rattle.refusals.specs.declared.Refusal.{Refusal}
 use Rattle.open_lent.specs.Lent as frames
@@ -18,7 +18,7 @@ use Rattle.port_lent.specs.Lent.{port_of, port_shown, no_port}
 
 -- 01 REFUSAL.12
 -- a refusal leaves the lent port, to the last member
-abbrev pub port_after : LentPort → Word → Port → LentPort
+abbrev pub port_after : LentPort → Result Word Refusal → Port → LentPort
 port_after p w q = cond (is_refused w) p (port_shown q)
 
 -- a call on the port p

@@ -1,10 +1,11 @@
 -- Document 01, 'Port': the numbers of its words and reasons, as C sees them. Assumes nothing.
-use Rattle.std.specs.Prelude.{ℕ}
+use Rattle.refusals.specs.declared.Refusal.{Refusal}
+use Rattle.std.specs.Prelude.{ℕ, Err, Ok, Result}
 use Rattle.refusals.specs.Refusals.{number_of}
 use Rattle.port_parts.specs.declared.Reason.{Reason}
 use Rattle.port_parts.specs.declared.Reason.TheVariants.{NoDestination, BadDestination, WrongDestination, LinkRateNotSupported, ProtocolNotSupported, PathwayBlocked, StpResourcesBusy, Retry, OpenTimeOut, BreakReceived, Other}
 use Rattle.port_rows.specs.declared.Word.{Word}
-use Rattle.port_rows.specs.declared.Word.TheVariants.{Taken, Submitted, Nothing, Send, Open, Close, StopArb, Retried, Waiting, CancelAcknowledged, Ended, NexusLoss, ConnectionLost, Status, Refused}
+use Rattle.port_rows.specs.declared.Word.TheVariants.{Taken, Submitted, Nothing, Send, Open, Close, StopArb, Retried, Waiting, CancelAcknowledged, Ended, NexusLoss, ConnectionLost, Status}
 
 -- a reason's number, as Open Failed takes it
 abbrev pub reason_number : Reason → ℕ
@@ -22,37 +23,37 @@ reason_number Other = 10
 
 -- 01 FORM.9
 -- the answer: 0 taken, a refusal's own number, and from 32 on what happened
-abbrev pub word_number : Word → ℕ
-word_number Taken = 0
-word_number Submitted = 32
-word_number Nothing = 33
-word_number Send = 34
-word_number Open = 35
-word_number Close = 36
-word_number StopArb = 37
-word_number Retried = 38
-word_number Waiting = 39
-word_number CancelAcknowledged = 40
-word_number (Ended why) = 41
-word_number NexusLoss = 42
-word_number ConnectionLost = 43
-word_number (Status byte) = 44
-word_number (Refused k) = number_of k
+abbrev pub word_number : Result Word Refusal → ℕ
+word_number (Ok Taken) = 0
+word_number (Ok Submitted) = 32
+word_number (Ok Nothing) = 33
+word_number (Ok Send) = 34
+word_number (Ok Open) = 35
+word_number (Ok Close) = 36
+word_number (Ok StopArb) = 37
+word_number (Ok Retried) = 38
+word_number (Ok Waiting) = 39
+word_number (Ok CancelAcknowledged) = 40
+word_number (Ok (Ended why)) = 41
+word_number (Ok NexusLoss) = 42
+word_number (Ok ConnectionLost) = 43
+word_number (Ok (Status byte)) = 44
+word_number (Err k) = number_of k
 
 -- what goes with it: Ended's reason, Status's byte
-abbrev pub detail_of : Word → ℕ
-detail_of Taken = 0
-detail_of Submitted = 0
-detail_of Nothing = 0
-detail_of Send = 0
-detail_of Open = 0
-detail_of Close = 0
-detail_of StopArb = 0
-detail_of Retried = 0
-detail_of Waiting = 0
-detail_of CancelAcknowledged = 0
-detail_of (Ended why) = reason_number why
-detail_of NexusLoss = 0
-detail_of ConnectionLost = 0
-detail_of (Status byte) = byte
-detail_of (Refused k) = 0
+abbrev pub detail_of : Result Word Refusal → ℕ
+detail_of (Ok Taken) = 0
+detail_of (Ok Submitted) = 0
+detail_of (Ok Nothing) = 0
+detail_of (Ok Send) = 0
+detail_of (Ok Open) = 0
+detail_of (Ok Close) = 0
+detail_of (Ok StopArb) = 0
+detail_of (Ok Retried) = 0
+detail_of (Ok Waiting) = 0
+detail_of (Ok CancelAcknowledged) = 0
+detail_of (Ok (Ended why)) = reason_number why
+detail_of (Ok NexusLoss) = 0
+detail_of (Ok ConnectionLost) = 0
+detail_of (Ok (Status byte)) = byte
+detail_of (Err k) = 0

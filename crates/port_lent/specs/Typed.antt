@@ -1,5 +1,5 @@
 -- The port's numbers, a port and what its calls are given a second time, typed. Assumes nothing.
-use Rattle.std.specs.Prelude.{ℕ, List, [], ◌∷◌}
+use Rattle.std.specs.Prelude.{ℕ, List, [], ◌∷◌, Err, Ok, Result}
 use Rattle.refusals.specs.declared.Refusal.{Refusal}
 use Rattle.port_parts.specs.declared.Phy.{Phy}
 use Rattle.port_parts.specs.declared.Port.{Port}
@@ -10,19 +10,18 @@ use Rattle.port_rows.specs.declared.Confirmed.{Confirmed}
 use Rattle.port_rows.specs.declared.Failure.{Failure}
 use Rattle.port_rows.specs.declared.Report.{Report}
 use Rattle.port_rows.specs.declared.Word.{Word}
-use Rattle.port_rows.specs.declared.Word.TheVariants.{Refused}
 use Rattle.port.specs.declared.Time.{Time}
 use Rattle.port_lent.specs.declared.Phy.{Phy as LentPhy}
 use Rattle.port_lent.specs.declared.Port.{Port as LentPort}
 
 -- 0, document 01's refusals, and from 32 on what happened
-abbrev pub typed_words : List Word
+abbrev pub typed_words : List (Result Word Refusal)
 typed_words =
-    Word.Taken
-    ∷ Refused Refusal.Length ∷ Refused Refusal.Unlisted ∷ Refused Refusal.Rules ∷ Refused Refusal.Phy ∷ Refused Refusal.Past
-    ∷ Refused Refusal.Unfit ∷ Refused Refusal.Due ∷ Refused Refusal.Sent ∷ Refused Refusal.Present ∷ Refused Refusal.Full
-    ∷ Word.Submitted ∷ Word.Nothing ∷ Word.Send ∷ Word.Open ∷ Word.Close ∷ Word.StopArb ∷ Word.Retried ∷ Word.Waiting
-    ∷ Word.CancelAcknowledged ∷ Word.Ended Reason.StpResourcesBusy ∷ Word.NexusLoss ∷ Word.ConnectionLost ∷ Word.Status 64 ∷ []
+    (Ok Word.Taken)
+    ∷ Err Refusal.Length ∷ Err Refusal.Unlisted ∷ Err Refusal.Rules ∷ Err Refusal.Phy ∷ Err Refusal.Past
+    ∷ Err Refusal.Unfit ∷ Err Refusal.Due ∷ Err Refusal.Sent ∷ Err Refusal.Present ∷ Err Refusal.Full
+    ∷ (Ok Word.Submitted) ∷ (Ok Word.Nothing) ∷ (Ok Word.Send) ∷ (Ok Word.Open) ∷ (Ok Word.Close) ∷ (Ok Word.StopArb) ∷ (Ok Word.Retried) ∷ (Ok Word.Waiting)
+    ∷ (Ok Word.CancelAcknowledged) ∷ Ok (Word.Ended Reason.StpResourcesBusy) ∷ (Ok Word.NexusLoss) ∷ (Ok Word.ConnectionLost) ∷ Ok (Word.Status 64) ∷ []
 
 abbrev pub typed_answers : List ℕ
 typed_answers = 0 ∷ 1 ∷ 2 ∷ 3 ∷ 4 ∷ 5 ∷ 6 ∷ 7 ∷ 8 ∷ 9 ∷ 10 ∷ 32 ∷ 33 ∷ 34 ∷ 35 ∷ 36 ∷ 37 ∷ 38 ∷ 39 ∷ 40 ∷ 41 ∷ 42 ∷ 43 ∷ 44 ∷ []

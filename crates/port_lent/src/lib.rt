@@ -10,13 +10,15 @@ ghost use Rattle.port_lent.specs.Lent.{phy_of, phy_formed, phys_of, phys_shown, 
 ghost use Rattle.port_lent.specs.Given.{time_of, submission_of, withdrawn_of, confirmed_of, failure_of, report_of};
 ghost use Rattle.port_lent.specs.Face as face;
 
+use open_frame::OpenFrame;
 use open_lent::Open;
 use port::{Stepped, Time};
 use port_rows::{Confirmed, Failure, Key, Report, Submission, Withdrawn, Word};
+use refusals::Refusal;
 
 // A phy of the port; all zeros is a disabled one that a port has no room for.
 #[repr(C)]
-#[derive(Clone, Copy)]
+#[derive(Clone, Copy, Default)]
 pub struct Phy {
     // Whom it is connected to, and below its protocol; zeros if it isn't.
     pub destination: u64,
@@ -31,7 +33,7 @@ pub struct Phy {
 
 // All zeros is a port before its setup.
 #[repr(C)]
-#[derive(Clone, Copy)]
+#[derive(Clone, Copy, Default)]
 pub struct Port {
     // The time of the last call.
     pub last: u64,
@@ -67,51 +69,40 @@ fn phy_formed(f: Phy) -> bool
     (f.zero4 == 0) & (f.zero1 == 0)
 }
 
-#[tactic(auto, unfolding(crate::specs::Lent::phys_formed, laws::specs::Folds::all_below))]
 fn phys_formed(phys: [Phy; 8]) -> bool
     ensures { result ≡ lent.phys_formed phys }
 {
-    phy_formed(phys[0])
-        & phy_formed(phys[1])
-        & phy_formed(phys[2])
-        & phy_formed(phys[3])
-        & phy_formed(phys[4])
-        & phy_formed(phys[5])
-        & phy_formed(phys[6])
-        & phy_formed(phys[7])
+    // No `all`, as in port_rules: to look at a phy more costs less than to ask at each whether to go on.
+    let mut kept = true;
+    for f in &phys {
+        kept = kept & phy_formed(*f);
+    }
+    kept
 }
 
 fn formed(p: Port) -> bool
     ensures { result ≡ lent.formed p }
 {
-    let phys = p.phys;
-    (p.zero4 == 0) & ((p.zero1 == 0) & phys_formed(phys))
+    (p.zero4 == 0) & ((p.zero1 == 0) & phys_formed(p.phys))
 }
 
-fn phy_of(f: Phy) -> port_parts::Phy
-    ensures { result ≡ phy_of f }
-{
-    port_parts::Phy {
-        stage: f.stage,
-        slot: f.slot,
-        protocol: f.protocol,
-        destination: f.destination,
+impl From<Phy> for port_parts::Phy {
+    ghost from_gives = { λ f p. p ≡ phy_of f };
+
+    fn from(f: Phy) -> port_parts::Phy {
+        port_parts::Phy {
+            stage: f.stage,
+            slot: f.slot,
+            protocol: f.protocol,
+            destination: f.destination,
+        }
     }
 }
 
 fn phys_of(phys: [Phy; 8]) -> [port_parts::Phy; 8]
     ensures { result ≡ phys_of phys }
 {
-    [
-        phy_of(phys[0]),
-        phy_of(phys[1]),
-        phy_of(phys[2]),
-        phy_of(phys[3]),
-        phy_of(phys[4]),
-        phy_of(phys[5]),
-        phy_of(phys[6]),
-        phy_of(phys[7]),
-    ]
+    phys.map(port_parts::Phy::from)
 }
 
 // How many phys the numbers say; none where they say no port.
@@ -128,50 +119,41 @@ fn count_of(p: Port) -> u8
 pub fn port_of(p: Port) -> port_parts::Port
     ensures { result ≡ port_of p }
 {
-    let phys = p.phys;
     port_parts::Port {
         count: count_of(p),
         loss: p.loss,
         last: p.last,
-        phys: phys_of(phys),
+        phys: phys_of(p.phys),
     }
 }
 
-fn phy_shown(f: port_parts::Phy) -> Phy
-    ensures { result ≡ lent.phy_shown f }
-{
-    Phy {
-        destination: f.destination,
-        zero4: 0,
-        stage: f.stage,
-        slot: f.slot,
-        protocol: f.protocol,
-        zero1: 0,
+impl From<port_parts::Phy> for Phy {
+    ghost from_gives = { λ f p. p ≡ lent.phy_shown f };
+
+    fn from(f: port_parts::Phy) -> Phy {
+        Phy {
+            destination: f.destination,
+            zero4: 0,
+            stage: f.stage,
+            slot: f.slot,
+            protocol: f.protocol,
+            zero1: 0,
+        }
     }
 }
 
 fn phys_shown(phys: [port_parts::Phy; 8]) -> [Phy; 8]
     ensures { result ≡ phys_shown phys }
 {
-    [
-        phy_shown(phys[0]),
-        phy_shown(phys[1]),
-        phy_shown(phys[2]),
-        phy_shown(phys[3]),
-        phy_shown(phys[4]),
-        phy_shown(phys[5]),
-        phy_shown(phys[6]),
-        phy_shown(phys[7]),
-    ]
+    phys.map(Phy::from)
 }
 
 fn port_shown(p: port_parts::Port) -> Port
     ensures { result ≡ port_shown p }
 {
-    let phys = p.phys;
     Port {
         last: p.last,
-        phys: phys_shown(phys),
+        phys: phys_shown(p.phys),
         zero4: 0,
         loss: p.loss,
         count: p.count,
@@ -180,12 +162,12 @@ fn port_shown(p: port_parts::Port) -> Port
 }
 
 // The port after a call; a refusal leaves the lent one, to the last member.
-fn port_after(p: Port, w: Word, q: port_parts::Port) -> Port
+fn port_after(p: Port, w: Result<Word, Refusal>, q: port_parts::Port) -> Port
     ensures { result ≡ face.port_after p w q }
 {
     match w {
-        Word::Refused(_) => p,
-        _ => port_shown(q),
+        Err(_) => p,
+        Ok(_) => port_shown(q),
     }
 }
 
@@ -194,39 +176,21 @@ pub fn shown(p: Port, s: Stepped) -> PortStep
     ensures { result ≡ face.shown p s }
 {
     let a = s.answer;
-    let w = a.word;
-    let frame = a.frame;
-    let port = s.port;
     PortStep {
-        port: port_after(p, w, port),
-        frame: open_lent::shown(frame),
-        answer: numbers::word_number(w),
-        detail: numbers::detail_of(w),
+        port: port_after(p, a.word, s.port),
+        frame: Open::from(a.frame),
+        answer: numbers::word_number(a.word),
+        detail: numbers::detail_of(a.word),
         slot: a.slot,
         phy: a.phy,
     }
 }
 
-// A port before its setup.
+// A port before its setup: all zeros.
 fn no_port() -> Port
     ensures { result ≡ lent.no_port }
 {
-    let phy = Phy {
-        destination: 0,
-        zero4: 0,
-        stage: 0,
-        slot: 0,
-        protocol: 0,
-        zero1: 0,
-    };
-    Port {
-        last: 0,
-        phys: [phy; 8],
-        zero4: 0,
-        loss: 0,
-        count: 0,
-        zero1: 0,
-    }
+    Port::default()
 }
 
 // What C sees of a setup, which is lent no port.
@@ -237,6 +201,7 @@ pub fn set_up(s: Stepped) -> PortStep
 }
 
 // What the calls are given.
+// What the calls are given, each by a function of its own, which may not change: the calls that C makes name them in their clauses.
 pub fn time_of(now: u64) -> Time
     ensures { result ≡ time_of now }
 {
@@ -247,9 +212,10 @@ pub fn time_of(now: u64) -> Time
 pub fn submission_of(head: Open, now: u64) -> Submission
     ensures { result ≡ submission_of head now }
 {
-    let frame = open_lent::frame_of(head);
-    let said = frame.head;
-    Submission { head: said, now }
+    Submission {
+        head: OpenFrame::from(head).head,
+        now,
+    }
 }
 
 pub fn withdrawn_of(destination: u64, protocol: u8, tag: u16, now: u64) -> Withdrawn

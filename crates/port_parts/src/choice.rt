@@ -1,6 +1,5 @@
 // Document 01, 'Port': which request goes next, and on which phy.
 ghost use Rattle.std.specs.Prelude.{◌≡◌, ◌≤◌, ◌<◌};
-ghost use Rattle.laws.specs.Sets.{bit};
 ghost use Rattle.port_parts.specs.Choice.{joined_of, free_sets, way_for, is_ready, no_pick, picked, earlier_of, chosen_step};
 ghost use Rattle.port_parts.specs.Choice as choice;
 
@@ -16,12 +15,6 @@ fn reaches(p: Phy, h: Head) -> bool
     (p.destination == h.destination) & (p.protocol == h.protocol)
 }
 
-fn bit(t: bool) -> u8
-    ensures { (result ≡ bit t) × (result ≤ 1) }
-{
-    if t { 1 } else { 0 }
-}
-
 // The sets of the phys from p on, where `s` are those of the phys behind it.
 fn joined(s: Sets, p: Phy, h: Head) -> Sets
     requires { (s.sends < 128) × ((s.opens < 128) × (s.closes < 128)) }
@@ -30,26 +23,19 @@ fn joined(s: Sets, p: Phy, h: Head) -> Sets
     let idle = p.stage == phy_stage::IDLE;
     let there = reaches(p, h);
     Sets {
-        sends: s.sends * 2 + bit(idle & there),
-        opens: s.opens * 2 + bit(p.stage == phy_stage::UNCONNECTED),
-        closes: s.closes * 2 + bit(idle & !there),
+        sends: s.sends * 2 + u8::from(idle & there),
+        opens: s.opens * 2 + u8::from(p.stage == phy_stage::UNCONNECTED),
+        closes: s.closes * 2 + u8::from(idle & !there),
     }
 }
 
-// One pass over the phys, from the last to the first.
+// One pass over the phys, from the last to the first. By number, since behind `rev` the proof doesn't know which phy comes next.
 fn free_sets(phys: [Phy; 8], h: Head) -> Sets
     ensures { result ≡ free_sets phys h }
 {
-    let mut s = Sets {
-        sends: 0,
-        opens: 0,
-        closes: 0,
-    };
-    let mut k: usize = 8;
-    while 0 < k {
-        k = k - 1;
-        let p = phys[k];
-        s = joined(s, p, h);
+    let mut s = Sets::default();
+    for k in 0..8 {
+        s = joined(s, phys[7 - k], h);
     }
     s
 }
@@ -60,22 +46,22 @@ fn way_for(phys: [Phy; 8], r: Request) -> Way
     ensures { result ≡ way_for phys r }
 {
     let free = free_sets(phys, r.head);
-    if 0 < u8::count_ones(free.sends) {
+    if 0 < free.sends.count_ones() {
         return Way {
             step: step::SENDS,
-            phy: u8::trailing_zeros(free.sends) as u8,
+            phy: free.sends.trailing_zeros() as u8,
         };
     }
-    if 0 < u8::count_ones(free.opens) {
+    if 0 < free.opens.count_ones() {
         return Way {
             step: step::OPENS,
-            phy: u8::trailing_zeros(free.opens) as u8,
+            phy: free.opens.trailing_zeros() as u8,
         };
     }
-    if (r.closed == UNCLOSED) & (0 < u8::count_ones(free.closes)) {
+    if (r.closed == UNCLOSED) & (0 < free.closes.count_ones()) {
         return Way {
             step: step::CLOSES,
-            phy: u8::trailing_zeros(free.closes) as u8,
+            phy: free.closes.trailing_zeros() as u8,
         };
     }
     Way {
@@ -107,24 +93,24 @@ pub fn no_pick() -> Pick
 fn picked(x: Asked, r: Request, i: usize) -> Pick
     ensures { result ≡ picked x r i }
 {
-    if is_ready(r, x.now) {
-        let phys = x.phys;
-        let way = way_for(phys, r);
-        return Pick {
-            step: way.step,
-            phy: way.phy,
-            slot: parts::slot_at(i),
-            at: r.submitted,
-        };
+    if !is_ready(r, x.now) {
+        return no_pick();
     }
-    no_pick()
+    let phys = x.phys;
+    let way = way_for(phys, r);
+    Pick {
+        step: way.step,
+        phy: way.phy,
+        slot: parts::slot_at(i),
+        at: r.submitted,
+    }
 }
 
 // The earlier of two, a where they are even.
 fn earlier(a: Pick, b: Pick) -> Pick
     ensures { result ≡ earlier_of a b }
 {
-    if !(b.step == step::NOTHING) & ((a.step == step::NOTHING) | (b.at < a.at)) {
+    if (b.step != step::NOTHING) & ((a.step == step::NOTHING) | (b.at < a.at)) {
         b
     } else {
         a
@@ -135,6 +121,5 @@ fn earlier(a: Pick, b: Pick) -> Pick
 pub fn chosen_step(a: Pick, r: Request, i: usize, x: Asked) -> Pick
     ensures { result ≡ chosen_step a r i x }
 {
-    let b = picked(x, r, i);
-    earlier(a, b)
+    earlier(a, picked(x, r, i))
 }

@@ -40,7 +40,7 @@ pub const SET: u64 = 1;
 
 // A phy of the port. Lent states can hold any numbers; the rules of a state say which are taken.
 #[repr(C)]
-#[derive(Clone, Copy)]
+#[derive(Clone, Copy, Default)]
 pub struct Phy {
     // One of phy_stage.
     pub stage: u8,
@@ -53,7 +53,7 @@ pub struct Phy {
 
 // A time that may not have come.
 #[repr(C)]
-#[derive(Clone, Copy)]
+#[derive(Clone, Copy, Default)]
 pub struct Stamp {
     // SET once it came, else UNSET; as wide as the time, so that a lent stamp has no padding.
     pub set: u64,
@@ -63,7 +63,7 @@ pub struct Stamp {
 
 // A record of the list that the caller lends: 88 bytes without padding, so that each of them is promised.
 #[repr(C)]
-#[derive(Clone, Copy)]
+#[derive(Clone, Copy, Default)]
 pub struct Request {
     // One of request_stage.
     pub stage: u8,
@@ -87,7 +87,7 @@ pub struct Request {
 }
 
 #[repr(C)]
-#[derive(Clone, Copy)]
+#[derive(Clone, Copy, Default)]
 pub struct Port {
     // How many phys it has.
     pub count: u8,
@@ -99,7 +99,7 @@ pub struct Port {
 }
 
 // The phys that are free for each step toward a peer, phy k at bit k.
-#[derive(Clone, Copy)]
+#[derive(Clone, Copy, Default)]
 pub struct Sets {
     pub sends: u8,
     pub opens: u8,
@@ -109,7 +109,7 @@ pub struct Sets {
 // What can be done for a request, and the phy.
 #[derive(Clone, Copy)]
 pub struct Way {
-    // One of step.
+    // One of step, a number as in Pick.
     pub step: u8,
     pub phy: u8,
 }
@@ -117,6 +117,7 @@ pub struct Way {
 // A way for the request at a slot, and when that was submitted.
 #[derive(Clone, Copy)]
 pub struct Pick {
+    // One of step. A number and no enum: chosen_step and choose_core take any, as they always did.
     pub step: u8,
     pub phy: u8,
     pub slot: u8,
@@ -144,6 +145,6 @@ pub enum Reason {
     Retry,
     OpenTimeOut,
     BreakReceived,
-    // Any number that isn't one of document 01's reasons.
+    // Any number that isn't one of document 01's reasons. A case and no Option: the four tables answer of it too, as of a reason that is in none of them.
     Other,
 }

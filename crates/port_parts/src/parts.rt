@@ -3,8 +3,7 @@ ghost use Rattle.std.specs.Prelude.{◌≡◌, ◌+◌, leb};
 ghost use Rattle.port_parts.specs.Parts.{in_range, disabled_phy, no_stamp, blank, slot_at};
 ghost use Rattle.port_parts.specs.Parts as parts;
 
-use crate::{NO, NO_SLOT, Phy, Request, SET, Stamp, UNCLOSED, UNSET, phy_stage, request_stage};
-use open_frame::{Awt, Head, Pbc};
+use crate::{NO_SLOT, Phy, Request, SET, Stamp, phy_stage};
 
 // Whether setup takes these numbers. The last test holds of every u16; it stands as in the row.
 pub fn in_range(count: u8, loss: u16) -> bool
@@ -23,7 +22,7 @@ pub fn has_frame_out(p: Phy) -> bool
 pub fn no_stamp() -> Stamp
     ensures { result ≡ no_stamp }
 {
-    Stamp { set: UNSET, at: 0 }
+    Stamp::default()
 }
 
 pub fn stamped(now: u64) -> Stamp
@@ -39,55 +38,27 @@ pub fn disabled_phy() -> Phy
     Phy {
         stage: phy_stage::DISABLED,
         slot: NO_SLOT,
-        protocol: 0,
-        destination: 0,
+        ..Phy::default()
     }
 }
 
-// A record that is set free.
+// A record that is set free: all zeros.
 pub fn blank() -> Request
     ensures { result ≡ blank }
 {
-    Request {
-        stage: request_stage::FREE,
-        phy: 0,
-        cancelled: NO,
-        pbc: Pbc(0),
-        closed: UNCLOSED,
-        awt: Awt(0),
-        head: Head {
-            initiator: 0,
-            protocol: 0,
-            features: 0,
-            rate: 0,
-            tag: 0,
-            destination: 0,
-            source: 0,
-        },
-        submitted: 0,
-        retry: no_stamp(),
-        first: no_stamp(),
-        loss: no_stamp(),
-    }
+    Request::default()
 }
 
 // A place in the list as a slot.
 pub fn slot_at(i: usize) -> u8
     ensures { result ≡ slot_at i }
 {
-    if i < NO_SLOT as usize {
-        i as u8
-    } else {
-        NO_SLOT
-    }
+    i.min(NO_SLOT as usize) as u8
 }
 
 // Whether `now` is at or past `wait` microseconds after `at`.
 pub(crate) fn reached(at: u64, wait: u64, now: u64) -> bool
     ensures { result ≡ leb (at + wait) now }
 {
-    if now < at {
-        return false;
-    }
-    wait <= now - at
+    at <= now && wait <= now - at
 }

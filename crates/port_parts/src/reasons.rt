@@ -27,93 +27,43 @@ pub fn reason_of(n: u8) -> Reason
 pub fn is_listed(why: Reason) -> bool
     ensures { result ≡ is_listed why }
 {
-    match why {
-        Reason::NoDestination => true,
-        Reason::BadDestination => true,
-        Reason::WrongDestination => true,
-        Reason::LinkRateNotSupported => true,
-        Reason::ProtocolNotSupported => true,
-        Reason::PathwayBlocked => true,
-        Reason::StpResourcesBusy => true,
-        Reason::Retry => true,
-        Reason::OpenTimeOut => true,
-        Reason::BreakReceived => true,
-        Reason::Other => false,
-    }
+    !matches!(why, Reason::Other)
 }
 
 // Whether the request is tried again.
 pub fn is_retried(why: Reason) -> bool
     ensures { result ≡ is_retried why }
 {
-    match why {
-        Reason::NoDestination => true,
-        Reason::BadDestination => false,
-        Reason::WrongDestination => false,
-        Reason::LinkRateNotSupported => true,
-        Reason::ProtocolNotSupported => false,
-        Reason::PathwayBlocked => true,
-        Reason::StpResourcesBusy => false,
-        Reason::Retry => true,
-        Reason::OpenTimeOut => true,
-        Reason::BreakReceived => false,
-        Reason::Other => false,
-    }
+    matches!(
+        why,
+        Reason::NoDestination
+            | Reason::LinkRateNotSupported
+            | Reason::PathwayBlocked
+            | Reason::Retry
+            | Reason::OpenTimeOut
+    )
 }
 
 // Whether the wait runs on, and the blocked count grows.
 pub fn is_blocked(why: Reason) -> bool
     ensures { result ≡ is_blocked why }
 {
-    match why {
-        Reason::NoDestination => false,
-        Reason::BadDestination => false,
-        Reason::WrongDestination => false,
-        Reason::LinkRateNotSupported => false,
-        Reason::ProtocolNotSupported => false,
-        Reason::PathwayBlocked => true,
-        Reason::StpResourcesBusy => false,
-        Reason::Retry => false,
-        Reason::OpenTimeOut => false,
-        Reason::BreakReceived => false,
-        Reason::Other => false,
-    }
+    matches!(why, Reason::PathwayBlocked)
 }
 
 // Whether it starts the destination's loss timer.
 pub fn is_starting(why: Reason) -> bool
     ensures { result ≡ is_starting why }
 {
-    match why {
-        Reason::NoDestination => true,
-        Reason::BadDestination => false,
-        Reason::WrongDestination => false,
-        Reason::LinkRateNotSupported => true,
-        Reason::ProtocolNotSupported => false,
-        Reason::PathwayBlocked => false,
-        Reason::StpResourcesBusy => false,
-        Reason::Retry => false,
-        Reason::OpenTimeOut => false,
-        Reason::BreakReceived => false,
-        Reason::Other => false,
-    }
+    matches!(why, Reason::NoDestination | Reason::LinkRateNotSupported)
 }
 
 // Whether it stops the destination's loss timer.
 pub fn is_stopping(why: Reason) -> bool
     ensures { result ≡ is_stopping why }
 {
-    match why {
-        Reason::NoDestination => false,
-        Reason::BadDestination => false,
-        Reason::WrongDestination => false,
-        Reason::LinkRateNotSupported => false,
-        Reason::ProtocolNotSupported => true,
-        Reason::PathwayBlocked => false,
-        Reason::StpResourcesBusy => true,
-        Reason::Retry => true,
-        Reason::OpenTimeOut => false,
-        Reason::BreakReceived => false,
-        Reason::Other => false,
-    }
+    matches!(
+        why,
+        Reason::ProtocolNotSupported | Reason::StpResourcesBusy | Reason::Retry
+    )
 }

@@ -2,6 +2,7 @@
 -- definition. Assumes nothing.
 -- Numbers are typed here, where the definitions have names. A phy: 0 disabled, 1 unconnected, 2 opening, 3 idle, 4 sending, 5 closing, 6 closing
 -- with a frame out; a request: 0 free, 1 waiting, 2 in progress; a step: 1 sends, 2 opens, 3 closes; slot 32 and phy 8 are none.
+use Rattle.std.specs.Prelude.{Ok, Some}
 use Prim.Native.Nat.{ℕ, ◌-◌}
 use mathlib.Core.Bool.{Bool, true, false, not, cond}
 use mathlib.Core.Path.{◌≡◌, refl, ap}
@@ -52,8 +53,8 @@ never_lost : (t : Stamp) (now : ℕ) → is_lost t 65535 now ≡ false
 never_lost t now = and_false (is_set t) refl
 
 -- 01 PORT.10: a loss timer that changes leaves a record of another destination
-other_keeps : (x : Loss) (r : Request) → eqb r.head.destination x.destination ≡ false → spread x r ≡ r
-other_keeps x r other = ap (λ (t : Bool). cond t (timed r x.timer) r) (and_false x.change (and_false (not (is_free r)) (and_false (is_ssp r.head) other)))
+other_keeps : (x : Loss) (r : Request) → eqb r.head.destination x.destination ≡ false → spread (Some x) r ≡ r
+other_keeps x r other = ap (λ (t : Bool). cond t (timed r x.timer) r) (and_false (not (is_free r)) (and_false (is_ssp r.head) other))
 
 -- 01 PORT.3
 -- 01 PORT.11: what submit stores: a request that waits, with nothing behind it but its destination's timer
@@ -113,12 +114,12 @@ module _ (p : Port) (r : Request) (x : Confirmed) (own : ltb x.phy p.count ≡ t
   opened_names opening = (rw (own, due, opening), (rw (own, due, opening), rw (own, due, opening)))
 
   -- 01 PORT.23: or closing, with none
-  joins_closing : is_opening phy ≡ true → is_cancelled r ≡ true → ((opened_core p r true x).port ≡ put p x.phy 5 phy.slot r.head.protocol r.head.destination x.now) × ((opened_core p r true x).answer.word ≡ Close)
+  joins_closing : is_opening phy ≡ true → is_cancelled r ≡ true → ((opened_core p r true x).port ≡ put p x.phy 5 phy.slot r.head.protocol r.head.destination x.now) × ((opened_core p r true x).answer.word ≡ Ok Close)
   unfolding opened_core
   joins_closing opening gone = (rw (own, due, opening, gone), rw (own, due, opening, gone))
 
   -- 01 PORT.24: Opened stops a running timer
-  stops : is_opening phy ≡ true → is_ssp r.head ≡ true → r.loss.set ≡ 1 → (opened_core p r true x).loss ≡ record { change = true; destination = r.head.destination; timer = no_stamp }
+  stops : is_opening phy ≡ true → is_ssp r.head ≡ true → r.loss.set ≡ 1 → (opened_core p r true x).loss ≡ Some (record { destination = r.head.destination; timer = no_stamp })
   unfolding opened_core
   stops opening ssp runs = rw (own, due, opening, ssp, runs)
 
@@ -128,7 +129,7 @@ module _ (p : Port) (r : Request) (x : Confirmed) (own : ltb x.phy p.count ≡ t
   frees joined = rw (own, due, joined)
 
   -- 01 PORT.21: its request ends as connection lost
-  loses : is_joined phy ≡ true → names phy ≡ true → is_cancelled r ≡ false → (closed_core p r true x).answer.word ≡ ConnectionLost
+  loses : is_joined phy ≡ true → names phy ≡ true → is_cancelled r ≡ false → (closed_core p r true x).answer.word ≡ Ok ConnectionLost
   unfolding closed_core
   loses joined named wanted = rw (own, due, joined, named, wanted)
 
@@ -147,7 +148,7 @@ module _ (p : Port) (r : Request) (x : Confirmed) (own : ltb x.phy p.count ≡ t
 
   -- 01 PORT.22: the request of a disabled phy waits again, with wait and PBC kept
   waits_again : is_disabled phy ≡ false → names phy ≡ true → is_cancelled r ≡ false
-      → let d = disable_core p r true x in (d.answer.word ≡ Waiting) × ((d.entry.stage ≡ 1) × ((d.entry.pbc ≡ r.pbc) × ((d.entry.awt ≡ r.awt) × ((d.entry.first ≡ r.first) × (d.entry.retry ≡ r.retry)))))
+      → let d = disable_core p r true x in (d.answer.word ≡ Ok Waiting) × ((d.entry.stage ≡ 1) × ((d.entry.pbc ≡ r.pbc) × ((d.entry.awt ≡ r.awt) × ((d.entry.first ≡ r.first) × (d.entry.retry ≡ r.retry)))))
   unfolding disable_core
   waits_again on named wanted =
       (rw (own, due, on, named, wanted), (rw (own, due, on, wanted), (rw (own, due, on, wanted), (rw (own, due, on, wanted), (rw (own, due, on, wanted), rw (own, due, on, wanted))))))
@@ -169,7 +170,7 @@ failed_names p r x listed own due opening = (rw (listed, own, due, opening), (rw
 -- a frame's status, of a phy of the port with a frame out, at a time that isn't past
 module _ (p : Port) (r : Request) (x : Report) (own : ltb x.phy p.count ≡ true) (due : ltb x.now p.last ≡ false) where
   -- 01 PORT.20: the byte is handed on, and the phy is idle
-  status_idle : (phy_at p x.phy).stage ≡ 4 → is_cancelled r ≡ false → ((frame_status_core p r true x).answer.word ≡ Status x.status) × ((frame_status_core p r true x).port ≡ put p x.phy 3 32 (phy_at p x.phy).protocol (phy_at p x.phy).destination x.now)
+  status_idle : (phy_at p x.phy).stage ≡ 4 → is_cancelled r ≡ false → ((frame_status_core p r true x).answer.word ≡ Ok (Status x.status)) × ((frame_status_core p r true x).port ≡ put p x.phy 3 32 (phy_at p x.phy).protocol (phy_at p x.phy).destination x.now)
   unfolding frame_status_core
   status_idle out wanted = (rw (own, due, out, wanted), rw (own, due, out))
 
@@ -191,11 +192,11 @@ module _ (p : Port) (r : Request) (s : ℕ) (x : Withdrawn) (listed : ltb x.key.
   cancel_names = (rw (listed, due, found, wanted, busy), (rw (listed, due, found, wanted, busy), rw (listed, due, found, wanted, busy)))
 
   -- 01 PORT.23: Stop Arb while opening
-  stops_arb : (phy_at p r.phy).stage ≡ 2 → (cancel_core p r true s x).answer.word ≡ StopArb
+  stops_arb : (phy_at p r.phy).stage ≡ 2 → (cancel_core p r true s x).answer.word ≡ Ok StopArb
   unfolding cancel_core cancelled
   stops_arb opening = rw (listed, due, found, wanted, busy, opening)
 
   -- 01 PORT.23: Close while connected, with the frame out
-  closes_sending : (phy_at p r.phy).stage ≡ 4 → ((cancel_core p r true s x).answer.word ≡ Close) × ((cancel_core p r true s x).port ≡ put p r.phy 6 (phy_at p r.phy).slot (phy_at p r.phy).protocol (phy_at p r.phy).destination x.now)
+  closes_sending : (phy_at p r.phy).stage ≡ 4 → ((cancel_core p r true s x).answer.word ≡ Ok Close) × ((cancel_core p r true s x).port ≡ put p r.phy 6 (phy_at p r.phy).slot (phy_at p r.phy).protocol (phy_at p r.phy).destination x.now)
   unfolding cancel_core cancelled
   closes_sending out = (rw (listed, due, found, wanted, busy, out), rw (listed, due, found, wanted, busy, out))

@@ -1,8 +1,9 @@
 -- A running loss timer stays as it is where the reason of an Open Failed doesn't stop it: that timer is what goes to the destination's
 -- requests. Assumes nothing.
+use Rattle.std.specs.Prelude.{Some, None}
 use Prim.Native.Nat.{ℕ}
-use mathlib.Core.Bool.{Bool, true, false, not, ◌&&◌}
-use mathlib.Core.Path.{◌≡◌, refl}
+use mathlib.Core.Bool.{Bool, true, false, not, cond, ◌&&◌}
+use mathlib.Core.Path.{◌≡◌, refl, ap}
 use lib.Dec.{eqb}
 use borrow.Author.Tests.{eq-eqb}
 use Rattle.port_parts.specs.Parts.{is_set, is_ssp}
@@ -24,5 +25,5 @@ module _ (r : Request) (why : Reason) (now : ℕ) (ssp : is_ssp r.head ≡ true)
   pub timer_stays : timer_after r why now ≡ r.loss
   timer_stays = rw ssp (runs_on is_stopping is_starting why r.loss now going running)
 
-  pub unchanged_by : (loss_by r (timer_after r why now)).change ≡ false
-  unchanged_by = unmoved (is_ssp r.head) r.loss (timer_after r why now) timer_stays
+  pub unchanged_by : loss_by r (timer_after r why now) ≡ None
+  unchanged_by = ap (λ (t : Bool). cond t (Some (record { destination = r.head.destination; timer = timer_after r why now })) None) (unmoved (is_ssp r.head) r.loss (timer_after r why now) timer_stays)

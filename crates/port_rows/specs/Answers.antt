@@ -1,5 +1,5 @@
 -- Document 01, 'Port': what a call leaves and answers. Assumes nothing.
-use Rattle.std.specs.Prelude.{ℕ, Bool, false, not, ◌&&◌, eqb, set, replicate}
+use Rattle.std.specs.Prelude.{ℕ, Bool, false, not, ◌&&◌, eqb, set, replicate, Err, Result, cond, Option, Some, None}
 use Rattle.refusals.specs.declared.Refusal.{Refusal}
 use Rattle.open_frame.specs.declared.Head.{Head}
 use Rattle.open_frame.specs.declared.OpenFrame.{OpenFrame}
@@ -10,7 +10,6 @@ use Rattle.port_parts.specs.declared.Port.{Port}
 use Rattle.port_parts.specs.declared.Request.{Request}
 use Rattle.port_parts.specs.declared.Stamp.{Stamp}
 use Rattle.port_rows.specs.declared.Word.{Word}
-use Rattle.port_rows.specs.declared.Word.TheVariants.{Refused}
 use Rattle.port_rows.specs.declared.Answer.{Answer}
 use Rattle.port_rows.specs.declared.Loss.{Loss}
 use Rattle.port_rows.specs.declared.Done.{Done}
@@ -25,11 +24,11 @@ abbrev pub naming : Request → OpenFrame
 naming r = record { head = r.head; pbc = record { 0 = 0 }; awt = record { 0 = 0 } }
 
 -- no request and no phy
-abbrev pub nameless : Word → Answer
+abbrev pub nameless : Result Word Refusal → Answer
 nameless w = record { word = w; slot = no_slot; phy = no_phy; frame = no_frame }
 
 -- what is said: a word on request r at slot s, and on phy k
-abbrev pub said : Word → ℕ → ℕ → Request → Answer
+abbrev pub said : Result Word Refusal → ℕ → ℕ → Request → Answer
 said w s k r = record { word = w; slot = s; phy = k; frame = naming r }
 
 -- ---- the port after a call
@@ -68,17 +67,17 @@ staged_phy n s f = record { stage = n; slot = s; protocol = f.protocol; destinat
 
 -- ---- loss timers
 
-abbrev pub no_loss : Loss
-no_loss = record { change = false; destination = 0; timer = no_stamp }
+abbrev pub no_loss : Option Loss
+no_loss = None
 
 -- the timer of r's destination is t from now on; every SSP request to the destination gets it
-abbrev pub loss_by : Request → Stamp → Loss
-loss_by r t = record { change = is_ssp r.head && not (eqb r.loss.set t.set); destination = r.head.destination; timer = t }
+abbrev pub loss_by : Request → Stamp → Option Loss
+loss_by r t = cond (is_ssp r.head && not (eqb r.loss.set t.set)) (Some (record { destination = r.head.destination; timer = t })) None
 
 -- ---- what a call leaves
 
 -- what is stored: the record `entry`, at the slot that the answer names, none at no slot; and a loss timer in every record of its destination
-abbrev pub stored : Port → Answer → Request → Loss → Done
+abbrev pub stored : Port → Answer → Request → Option Loss → Done
 stored p a entry loss = record { port = p; answer = a; entry = entry; loss = loss; cleared = false }
 
 -- 01 PORT.26
@@ -87,9 +86,9 @@ abbrev pub ended : Port → Answer → Done
 ended p a = stored p a blank no_loss
 
 -- an answer that names nothing; no record is stored, or all are cleared
-abbrev pub unnamed : Port → Word → Bool → Done
+abbrev pub unnamed : Port → Result Word Refusal → Bool → Done
 unnamed p w cleared = record { port = p; answer = nameless w; entry = blank; loss = no_loss; cleared = cleared }
 
 -- a refusal gives only its number, and leaves all as it was
 abbrev pub refused_by : Port → Refusal → Done
-refused_by p k = unnamed p (Refused k) false
+refused_by p k = unnamed p (Err k) false

@@ -3,10 +3,9 @@
 -- the call was given, `now` its time, and `kept` whether the lent state keeps its rules. What is said and stored, and phys that are
 -- made, stand in Answers.antt; a record with some fields changed in Changed.antt; what submit (v) and cancel find in Finds.antt; stages, marks and tests in
 -- port_parts; the fields of each type, with what they mean, in src/lib.rt of port_parts and of this crate.
-use Rattle.std.specs.Prelude.{ℕ, ◌+◌, ◌-◌, min, Bool, true, false, not, cond, ◌&&◌, ◌||◌, List, [], ◌∷◌, eqb, leb, ltb, get_or}
-use Rattle.refusals.specs.Causes.{Cause, ◌when◌, refuse, by_check}
+use Rattle.std.specs.Prelude.{ℕ, ◌+◌, ◌-◌, min, Bool, true, false, not, cond, ◌&&◌, ◌||◌, List, [], ◌∷◌, eqb, leb, ltb, get_or, Result, Ok}
+use Rattle.refusals.specs.Causes.{Cause, ◌when◌, refuse}
 use Rattle.refusals.specs.declared.Refusal.{Refusal}
-use Rattle.refusals.specs.declared.Checked.{Checked}
 use Rattle.open_frame.specs.Open.{head_listed}
 use Rattle.open_frame.specs.Wait.{wait_value}
 use Rattle.open_frame.specs.declared.Awt.{Awt}
@@ -44,17 +43,13 @@ is_cancelled r = eqb r.cancelled yes
 abbrev pub phy_at : Port → ℕ → Phy
 phy_at p k = get_or p.phys k absent_phy
 
--- what a call leaves whose checks came to c: a refusal, or d
-abbrev pub given : Checked → Port → Done → Done
-given c p d = by_check (refused_by p) d c
-
 -- ---- setup
 
 -- 01 REFUSAL.3
 unfoldable pub setup_core : ℕ → ℕ → Done
 setup_core count loss =
     refuse (refused_by no_port) ((Refusal.Rules when not (in_range count loss)) ∷ [])
-    (unnamed (fresh count loss) Taken true)
+    (unnamed (fresh count loss) (Ok Taken) true)
 
 -- ---- submit
 
@@ -87,7 +82,7 @@ submitted v x =
 
 unfoldable pub submit_core : Port → Bool → Room → Submission → Done
 submit_core p kept v x =
-    refuse (refused_by p) (submit_causes p kept v x) (stored (later p x.now) (said Submitted v.free no_phy (submitted v x)) (submitted v x) no_loss)
+    refuse (refused_by p) (submit_causes p kept v x) (stored (later p x.now) (said (Ok Submitted) v.free no_phy (submitted v x)) (submitted v x) no_loss)
 
 -- ---- cancel
 
@@ -109,12 +104,12 @@ closing_phy f = staged_phy (cond (is_sending f) phy-stage.closing_sending f.stag
 abbrev pub stopped : Port → Request → ℕ → ℕ → Done
 stopped p r s now =
     stored (with_phy p r.phy (closing_phy (phy_at p r.phy)) now)
-    (said (cond (is_opening (phy_at p r.phy)) StopArb Close) s r.phy r)
+    (said (cond (is_opening (phy_at p r.phy)) (Ok StopArb) (Ok Close)) s r.phy r)
     (marked r yes r.closed) no_loss
 
 -- 01 PORT.23: Cancel of a waiting request ends it (Cancel Acknowledged); in progress: Stop Arb while opening, Close while connected; Opened after that gives Close; any end, retry, closing or disabling then is Cancel Acknowledged.
 unfoldable pub cancelled : Port → Request → ℕ → ℕ → Done
-cancelled p r s now = cond (is_waiting r) (ended (later p now) (said CancelAcknowledged s no_phy r)) (stopped p r s now)
+cancelled p r s now = cond (is_waiting r) (ended (later p now) (said (Ok CancelAcknowledged) s no_phy r)) (stopped p r s now)
 
 unfoldable pub cancel_core : Port → Request → Bool → ℕ → Withdrawn → Done
 cancel_core p r kept s x = refuse (refused_by p) (cancel_causes p r kept s x) (cancelled p r s x.now)
@@ -123,16 +118,16 @@ cancel_core p r kept s x = refuse (refused_by p) (cancel_causes p r kept s x) (c
 
 -- 01 PORT.23: Opened after that gives Close
 -- its phy closes, and the frame doesn't go
-abbrev pub opened_word : Request → Word
-opened_word r = cond (is_cancelled r) Close Send
+abbrev pub opened_word : Request → Result Word Refusal
+opened_word r = cond (is_cancelled r) (Ok Close) (Ok Send)
 
 abbrev pub opened_stage : Request → ℕ
 opened_stage r = cond (is_cancelled r) phy-stage.closing phy-stage.sending
 
 -- 01 PORT.23: any end, retry, closing or disabling then is Cancel Acknowledged.
 -- the word on a request that would be w if it had not been cancelled
-abbrev pub unless_cancelled : Request → Word → Word
-unless_cancelled r w = cond (is_cancelled r) CancelAcknowledged w
+abbrev pub unless_cancelled : Request → Result Word Refusal → Result Word Refusal
+unless_cancelled r w = cond (is_cancelled r) (Ok CancelAcknowledged) w
 
 -- ---- choose
 
@@ -144,7 +139,7 @@ choose_causes p kept now = (Refusal.Rules when not kept) ∷ (Refusal.Past when 
 abbrev pub sent : Port → Request → Pick → ℕ → Done
 sent p r b now =
     stored (with_phy p b.phy (staged_phy phy-stage.sending b.slot (phy_at p b.phy)) now)
-    (said Send b.slot b.phy r)
+    (said (Ok Send) b.slot b.phy r)
     (placed r request-stage.in_progress b.phy) no_loss
 
 -- 01 PORT.16: Open carries AWT since the request's first open after its last reset, and its PBC.
@@ -158,7 +153,7 @@ wait_since r now = wait_value (now - (first_open r now).at)
 -- 01 PORT.16
 -- an Open, with the frame that the record holds
 abbrev pub asking : ℕ → ℕ → Request → Answer
-asking s k r = record { word = Open; slot = s; phy = k; frame = record { head = r.head; pbc = r.pbc; awt = r.awt } }
+asking s k r = record { word = Ok Open; slot = s; phy = k; frame = record { head = r.head; pbc = r.pbc; awt = r.awt } }
 
 -- a request whose open begins on phy k: in progress there, with the wait that its Open carries
 abbrev pub asked : Request → ℕ → ℕ → Request
@@ -175,11 +170,11 @@ opening p r b now =
 abbrev pub closing : Port → Request → Pick → ℕ → Done
 closing p r b now =
     stored (with_phy p b.phy (staged_phy phy-stage.closing no_slot (phy_at p b.phy)) now)
-    (said Close b.slot b.phy r)
+    (said (Ok Close) b.slot b.phy r)
     (marked r r.cancelled yes) no_loss
 
 abbrev pub idle : Port → ℕ → Done
-idle p now = unnamed (later p now) Nothing false
+idle p now = unnamed (later p now) (Ok Nothing) false
 
 -- 01 PORT.13 01 PORT.15
 unfoldable pub chosen : Port → Request → Pick → ℕ → Done
@@ -231,8 +226,8 @@ is_nexus_lost p r why now = is_ssp r.head && is_lost (timer_after r why now) p.l
 
 -- 01 PORT.18 01 PORT.25
 -- Cancel Acknowledged comes before a reason that ends, and that before I_T Nexus Loss
-abbrev pub failed_word : Port → Request → Reason → ℕ → Word
-failed_word p r why now = unless_cancelled r (cond (not (is_retried why)) (Ended why) (cond (is_nexus_lost p r why now) NexusLoss Retried))
+abbrev pub failed_word : Port → Request → Reason → ℕ → Result Word Refusal
+failed_word p r why now = unless_cancelled r (cond (not (is_retried why)) (Ok (Ended why)) (cond (is_nexus_lost p r why now) (Ok NexusLoss) (Ok Retried)))
 
 -- 01 PORT.18 01 PORT.23
 -- the request waits again, and is not set free
@@ -260,7 +255,7 @@ open_failed_core p r kept x =
 abbrev pub framed : Port → Phy → Request → Report → Done
 framed p f r x =
     ended (with_phy p x.phy (staged_phy (cond (is_sending f) phy-stage.idle phy-stage.closing) no_slot f) x.now)
-    (said (unless_cancelled r (Status x.status)) f.slot x.phy r)
+    (said (unless_cancelled r (Ok (Status x.status))) f.slot x.phy r)
 
 -- 01 REFUSAL.14: frame status, no frame out
 unfoldable pub frame_status_core : Port → Request → Bool → Report → Done
@@ -276,7 +271,7 @@ is_joined f = (is_idle f || is_sending f) || (is_closing_idle f || is_closing_se
 -- where the phy names no request it has no slot, and at no slot nothing is stored
 abbrev pub closed_done : Port → Phy → Request → Confirmed → Done
 closed_done p f r x =
-    ended (with_phy p x.phy unconnected_phy x.now) (said (cond (names f) (unless_cancelled r ConnectionLost) Taken) f.slot x.phy r)
+    ended (with_phy p x.phy unconnected_phy x.now) (said (cond (names f) (unless_cancelled r (Ok ConnectionLost)) (Ok Taken)) f.slot x.phy r)
 
 -- 01 REFUSAL.14: Closed, neither connected nor closing
 unfoldable pub closed_core : Port → Request → Bool → Confirmed → Done
@@ -288,14 +283,14 @@ closed_core p r kept x =
 unfoldable pub enable_core : Port → Request → Bool → Confirmed → Done
 enable_core p r kept x =
     refuse (refused_by p) (phy_causes p kept x.phy x.now (not (is_disabled (phy_at p x.phy))))
-    (ended (with_phy p x.phy unconnected_phy x.now) (said Taken no_slot x.phy r))
+    (ended (with_phy p x.phy unconnected_phy x.now) (said (Ok Taken) no_slot x.phy r))
 
 -- 01 PORT.22: A disabled phy's request waits again, wait and PBC kept.
 -- 01 PORT.23
 -- where the phy names no request it has no slot, and at no slot nothing is stored
 abbrev pub disabled_done : Port → Phy → Request → Confirmed → Done
 disabled_done p f r x =
-    stored (with_phy p x.phy disabled_phy x.now) (said (cond (names f) (unless_cancelled r Waiting) Taken) f.slot x.phy r)
+    stored (with_phy p x.phy disabled_phy x.now) (said (cond (names f) (unless_cancelled r (Ok Waiting)) (Ok Taken)) f.slot x.phy r)
     (cond (is_cancelled r) blank (placed r request-stage.waiting 0)) no_loss
 
 -- 01 REFUSAL.14: disabling a disabled phy

@@ -1,5 +1,5 @@
 -- Document 01, 'Port': what a call leaves of each record of the list. Assumes nothing.
-use Rattle.std.specs.Prelude.{ℕ, not, cond, ◌&&◌, eqb}
+use Rattle.std.specs.Prelude.{ℕ, not, cond, ◌&&◌, eqb, Option, Some, None}
 use Rattle.port_parts.specs.Parts.{blank, is_free, is_ssp}
 use Rattle.port_parts.specs.declared.Request.{Request}
 use Rattle.port_rows.specs.Changed.{timed}
@@ -9,8 +9,9 @@ use Rattle.port_rows.specs.declared.Done.{Done}
 -- 01 PORT.26: The destination's last SSP request to leave stops it too.
 -- every SSP request to the destination of a timer that changes gets it. A timer lies in the records of present requests alone: the last one to leave takes it along, as its
 -- record is set free (`ended`), and who comes next finds none (`room_step`)
-abbrev pub spread : Loss → Request → Request
-spread x r = cond (x.change && (not (is_free r) && (is_ssp r.head && eqb r.head.destination x.destination))) (timed r x.timer) r
+abbrev pub spread : Option Loss → Request → Request
+spread None r = r
+spread (Some x) r = cond (not (is_free r) && (is_ssp r.head && eqb r.head.destination x.destination)) (timed r x.timer) r
 
 -- record i after a call
 abbrev pub left_step : Request → ℕ → Done → Request

@@ -32,13 +32,12 @@ pub enum Word {
     ConnectionLost,
     // The frame's status, as it came.
     Status(u8),
-    Refused(Refusal),
 }
 
 #[derive(Clone, Copy)]
 pub struct Answer {
-    pub word: Word,
-    // The request that it names: its slot, 32 if it names none.
+    pub word: Result<Word, Refusal>,
+    // The request that it names: its slot, 32 if it names none; a number, as C reads it.
     pub slot: u8,
     // The phy that it names, 8 if it names none.
     pub phy: u8,
@@ -49,20 +48,19 @@ pub struct Answer {
 // A loss timer that changes.
 #[derive(Clone, Copy)]
 pub struct Loss {
-    pub change: bool,
     // Every SSP request to it gets the timer.
     pub destination: u64,
     pub timer: Stamp,
 }
 
-// What a call leaves: the port, the answer, the record at the answer's slot, and a loss timer.
+// What a call leaves: the port, the answer, the record at the answer's slot, and the loss timer that changes, if one does.
 #[derive(Clone, Copy)]
 pub struct Done {
     pub port: Port,
     pub answer: Answer,
     pub entry: Request,
-    pub loss: Loss,
-    // Whether every record of the list is set free.
+    pub loss: Option<Loss>,
+    // Whether every record of the list is set free, whatever stands beside it.
     pub cleared: bool,
 }
 
@@ -71,12 +69,13 @@ pub struct Done {
 pub struct Room {
     // The loss timer of its destination; first, so that a copy of the whole has no gap before it.
     pub loss: Stamp,
-    // The lowest free slot, 32 if there is none.
+    // The lowest free slot, 32 if there is none; a number, as the answer has it.
     pub free: u8,
     // Whether a request with its key is present.
     pub same: bool,
 }
 
+// What the calls give, a struct each: they give other fields, and the claims name each.
 // What a submit gives.
 #[repr(C)]
 #[derive(Clone, Copy)]

@@ -2,7 +2,7 @@
 // `runs::feed`'s; here are only the reads and the writes. What fails is said on standard error (crates/streams), and ends it.
 #![tactic(auto)]
 
-ghost use Rattle.std.specs.Prelude.{true, false, ◌≡◌, ◌≤◌, ◌<◌, length, take, IfSome};
+ghost use Rattle.std.specs.Prelude.{true, ◌≡◌, ◌≤◌, ◌<◌, length, take, IfSome, unwrap_or};
 ghost use Rattle.std.specs.Io.KnownBytes.{Appends, Consumes, Keeps, IsAtEnd};
 ghost use Rattle.streams.specs.Counts.{IsPrefixLen};
 ghost use Rattle.runs.specs.Rows.{longest_row};
@@ -11,21 +11,13 @@ ghost use Rattle.runs.specs.Output.{output_of};
 
 use runs::Run;
 use std::io::{Read, Write};
-use streams::Got;
-
-#[derive(Clone, Copy)]
-struct Went {
-    run: Run,
-    // Whether the output is still taken.
-    open: bool,
-}
 
 // Reads some of the input.
-fn get<R: Read, E: Write>(from: &mut R, input: &mut [u8], err: &mut E) -> Got
-    ensures bound { IsPrefixLen result.bytes input.new }
-    ensures taken { Consumes (R.remaining from.old) (R.remaining from.new) (take result.bytes input.new) }
-    ensures ended { result.failed ≡ false → result.bytes ≡ 0 → 0 < length input.old → IsAtEnd (R.remaining from.new) }
-    ensures silent { result.failed ≡ false → Keeps (E.contents err.old) (E.contents err.new) }
+fn get<R: Read, E: Write>(from: &mut R, input: &mut [u8], err: &mut E) -> Option<usize>
+    ensures bound { IsPrefixLen (unwrap_or result 0) input.new }
+    ensures taken { Consumes (R.remaining from.old) (R.remaining from.new) (take (unwrap_or result 0) input.new) }
+    ensures ended { result ≡ Some 0 → 0 < length input.old → IsAtEnd (R.remaining from.new) }
+    ensures silent { IfSome result (λ n. Keeps (E.contents err.old) (E.contents err.new)) }
 {
     streams::read(from, input, b"readrun: reading", err)
 }
@@ -38,38 +30,31 @@ fn put<W: Write, E: Write>(to: &mut W, bytes: &[u8], err: &mut E) -> bool
     streams::write(to, bytes, b"readrun: writing", err)
 }
 
-// Feeds a whole block, and writes what comes.
+// Feeds a whole block, and writes what comes. Answers the run behind it, while the output is still taken.
 fn block<W: Write, E: Write>(
     run: Run,
     input: &[u8],
     out: &mut [u8],
     to: &mut W,
     err: &mut E,
-) -> Went
+) -> Option<Run>
     requires { longest_row ≤ length out.old }
-    ensures carries { result.open ≡ true → carry_of result.run ≡ after (carry_of run) input.now }
-    ensures says { result.open ≡ true → Appends (W.contents to.old) (W.contents to.new) (said (carry_of run) input.now) }
-    ensures kept { run ≡ run_of (carry_of run) → result.run ≡ run_of (carry_of result.run) }
-    ensures silent { result.open ≡ true → Keeps (E.contents err.old) (E.contents err.new) }
+    ensures carries { IfSome result (λ r. carry_of r ≡ after (carry_of run) input.now) }
+    ensures says { IfSome result (λ r. Appends (W.contents to.old) (W.contents to.new) (said (carry_of run) input.now)) }
+    ensures kept { IfSome result (λ r. run ≡ run_of (carry_of run) → r ≡ run_of (carry_of r)) }
+    ensures silent { IfSome result (λ r. Keeps (E.contents err.old) (E.contents err.new)) }
 {
     let mut now = run;
-    let mut from = 0;
-    while from < input.len() {
-        let fed = runs::feed(now, &input[from..], out);
+    let mut rest = input;
+    while !rest.is_empty() {
+        let fed = runs::feed(now, rest, out);
         now = fed.run;
-        let wrote = fed.wrote;
-        if !put(to, &out[..wrote], err) {
-            return Went {
-                run: now,
-                open: false,
-            };
+        if !put(to, &out[..fed.wrote], err) {
+            return None;
         }
-        from += fed.used;
+        rest = &rest[fed.used..];
     }
-    Went {
-        run: now,
-        open: true,
-    }
+    Some(now)
 }
 
 // Reads to the end of the input, or until a read or a write fails. A read that fails is not the end: a line that had begun stays
@@ -89,20 +74,17 @@ fn all<R: Read, W: Write, E: Write>(
     let mut ended = false;
     // A proved loop has to end, and nothing says that the input does.
     for _ in 0..u64::MAX {
-        let got = get(from, input, err);
-        if got.failed {
+        let Some(n) = get(from, input, err) else {
             return false;
-        }
-        let n = got.bytes;
+        };
         if n == 0 {
             ended = true;
             break;
         }
-        let went = block(run, &input[..n], out, to, err);
-        if !went.open {
+        let Some(now) = block(run, &input[..n], out, to, err) else {
             return false;
-        }
-        run = went.run;
+        };
+        run = now;
     }
     let last = runs::close(run, out);
     let wrote = last.wrote;

@@ -1,4 +1,5 @@
 -- A frame's reader or writer has three ways out, which its two tests decide. Assumes nothing.
+use Rattle.std.specs.Prelude.{Err, Ok, Result}
 use mathlib.Core.Path.{◌≡◌, refl, sym, ◌∙◌}
 use mathlib.Core.Bool.{Bool, true, false}
 use mathlib.Core.Logic.{◌↔◌}
@@ -8,8 +9,6 @@ use native.Mathlib.Omega.{arith}
 use Rattle.refusals.specs.Causes.{Cause, refuse, buffer_causes, Wrote, buffer_grounds, Decides, nil, cons}
 use Rattle.refusals.specs.declared.Refusal.{Refusal}
 use Rattle.refusals.specs.declared.Refusal.TheVariants.{Length, Unlisted}
-use Rattle.refusals.specs.declared.Written.{Written}
-use Rattle.refusals.specs.declared.Written.TheVariants.{Done, Refused}
 use Rattle.laws.proofs.Tests.{unless}
 
 module _ {A : Type 0} (refused : Refusal → A) (a : A) {s : Bool} where
@@ -30,29 +29,29 @@ passed refused a x apart false t e = absurd (apart Length e)
 
 -- the three ways out of a writer's answer and bytes
 module _ (new before : List ℕ) {s : Bool} where
-  pub wrote_length : (t : Bool) → s ≡ false → Wrote (buffer_causes s t) new before (Refused Length) before
-  wrote_length t p = record { answer = by_length Refused Done t p; bytes = by_length (λ _. before) new t p }
+  pub wrote_length : (t : Bool) → s ≡ false → Wrote (buffer_causes s t) new before (Err Length) before
+  wrote_length t p = record { answer = by_length Err (Ok tt) t p; bytes = by_length (λ _. before) new t p }
 
-  pub wrote_field : {t : Bool} → s ≡ true → t ≡ false → Wrote (buffer_causes s t) new before (Refused Unlisted) before
-  wrote_field p q = record { answer = by_field Refused Done p q; bytes = by_field (λ _. before) new p q }
+  pub wrote_field : {t : Bool} → s ≡ true → t ≡ false → Wrote (buffer_causes s t) new before (Err Unlisted) before
+  wrote_field p q = record { answer = by_field Err (Ok tt) p q; bytes = by_field (λ _. before) new p q }
 
-  pub wrote_done : {t : Bool} → s ≡ true → t ≡ true → Wrote (buffer_causes s t) new before Done new
-  wrote_done p q = record { answer = by_none Refused Done p q; bytes = by_none (λ _. before) new p q }
+  pub wrote_done : {t : Bool} → s ≡ true → t ≡ true → Wrote (buffer_causes s t) new before (Ok tt) new
+  wrote_done p q = record { answer = by_none Err (Ok tt) p q; bytes = by_none (λ _. before) new p q }
 
-not_done : (k : Refusal) → Refused k ≡ Done → ⊥
+not_done : (k : Refusal) → ◌≡◌ {A = Result (Unit {0}) Refusal} (Err k) (Ok tt) → ⊥
 not_done k e = let z : ◌≡◌ {A = ℕ} 0 1 = cc in omega arith
 
 -- a writer that is done passed both tests and left the new bytes, and the other way round
-pub done_wrote : (new before : List ℕ) (s t : Bool) {r : Written} {after : List ℕ} → Wrote (buffer_causes s t) new before r after → r ≡ Done → (s ≡ true) × ((t ≡ true) × (after ≡ new))
+pub done_wrote : (new before : List ℕ) (s t : Bool) {r : Result (Unit {0}) Refusal} {after : List ℕ} → Wrote (buffer_causes s t) new before r after → r ≡ Ok tt → (s ≡ true) × ((t ≡ true) × (after ≡ new))
 done_wrote new before s t p e =
-    let tests = passed Refused Done Done not_done s t (sym p.answer ∙ e) in
+    let tests = passed Err (Ok tt) (Ok tt) not_done s t (sym p.answer ∙ e) in
     (tests.0, (tests.1.0, p.bytes ∙ sym (by_none (λ _. before) new tests.0 tests.1.0)))
 
-pub wrote_is : (new before : List ℕ) {s t : Bool} {r : Written} {after : List ℕ} → Wrote (buffer_causes s t) new before r after → s ≡ true → t ≡ true → (r ≡ Done) × (after ≡ new)
-wrote_is new before p sized listed = (p.answer ∙ sym (by_none Refused Done sized listed), p.bytes ∙ sym (by_none (λ _. before) new sized listed))
+pub wrote_is : (new before : List ℕ) {s t : Bool} {r : Result (Unit {0}) Refusal} {after : List ℕ} → Wrote (buffer_causes s t) new before r after → s ≡ true → t ≡ true → (r ≡ Ok tt) × (after ≡ new)
+wrote_is new before p sized listed = (p.answer ∙ sym (by_none Err (Ok tt) sized listed), p.bytes ∙ sym (by_none (λ _. before) new sized listed))
 
 -- a writer's promise admits one answer and one list of bytes
-pub wrote_once : {cs : List Cause} {new before : List ℕ} {r r' : Written} {o o' : List ℕ} → Wrote cs new before r o → Wrote cs new before r' o' → (r ≡ r') × (o ≡ o')
+pub wrote_once : {cs : List Cause} {new before : List ℕ} {r r' : Result (Unit {0}) Refusal} {o o' : List ℕ} → Wrote cs new before r o → Wrote cs new before r' o' → (r ≡ r') × (o ≡ o')
 wrote_once p q = (p.answer ∙ sym q.answer, p.bytes ∙ sym q.bytes)
 
 -- tests of lengths and fields decide the grounds

@@ -2,3 +2,4 @@
 pub mod Causes
 pub mod Frames
 pub mod Numbers
+pub mod Results

@@ -1,6 +1,7 @@
 -- What is asked of a reply follows from what every call keeps: of the state and its history, and of one call more. Assumes nothing.
+use Rattle.std.specs.Prelude.{Ok, Result}
 use Prim.Native.Nat.{ℕ, suc, ◌+◌, ◌≤◌}
-use mathlib.Core.Bool.{Bool, true, false, cond}
+use mathlib.Core.Bool.{Bool, true, cond}
 use mathlib.Core.List.{List, [], ◌∷◌, ◌++◌}
 use mathlib.Core.Logic.{inl, inr, ◌↔◌}
 use mathlib.Core.Path.{◌≡◌, refl, sym, ap, subst, subst⁻¹, ◌∙◌}
@@ -9,7 +10,7 @@ use lib.Dec.{ltb}
 use lib.ListN.{length}
 use borrow.Author.Tests.{ltb-true, ltb-false, not-false}
 use Rattle.laws.specs.Names.{flag}
-use Rattle.laws.proofs.Bools.{never, impossible, by_test}
+use Rattle.laws.proofs.Bools.{impossible, by_test}
 use Rattle.refusals.specs.declared.Refusal.{Refusal}
 use Rattle.refusals.proofs.Causes.{NoneGiven, by_causes}
 use Rattle.reply.specs.Rules.{unstarted, keeps_rules}
@@ -30,24 +31,6 @@ use Rattle.reply.proofs.Refusals.{taken}
 use Rattle.reply.proofs.Exact.{reached}
 use Rattle.reply.proofs.Invariant.{Then, Live, all_long, all_count, again, first_or_failed, then_long, then_count, then_latest, fails_too, arrives}
 use Rattle.reply.proofs.Invariant.{Inv, live_in, out, used_out, left_is, at_first, all_keep}
-
-abbrev is_fail : Answer → Bool
-is_fail Answer.Ok = false
-is_fail Answer.Sent = false
-is_fail Answer.Retry = false
-is_fail Answer.Done = false
-is_fail Answer.Fail = true
-is_fail Answer.End = false
-is_fail (Answer.Refused k) = false
-
-abbrev is_done : Answer → Bool
-is_done Answer.Ok = false
-is_done Answer.Sent = false
-is_done Answer.Retry = false
-is_done Answer.Done = true
-is_done Answer.Fail = false
-is_done Answer.End = false
-is_done (Answer.Refused k) = false
 
 apart : ◌≡◌ {A = ℕ} 0 1 → ⊥
 apart z = omega arith
@@ -78,53 +61,53 @@ module _ {F : Type 0} (s : Reply) (h : List (EntryOf F)) (i : Inv s h) where
     arrives_now = arrives s.used (view h) (out s h i w)
 
     -- NAK, TIMEOUT and LOST alike
-    word_now : (failed_step s).answer ≡ cond (left h) Answer.Retry Answer.Fail
+    word_now : (failed_step s).answer ≡ cond (left h) (Ok Answer.Retry) (Ok Answer.Fail)
     unfolding failed_step
     word_now =
         let is = left_is s h i w in
-        by_test (λ (st : Stepped). st.answer ≡ cond (left h) Answer.Retry Answer.Fail) (ltb s.used s.resends)
+        by_test (λ (st : Stepped). st.answer ≡ cond (left h) (Ok Answer.Retry) (Ok Answer.Fail)) (ltb s.used s.resends)
         (λ t. rw (sym is ∙ t)) (λ t. rw (sym is ∙ t))
 
   -- a is Fail exactly at failure R+1, where after it there are n failures
-  abbrev FailsAt : Answer → ℕ → Type 0
-  FailsAt a n = (a ≡ Answer.Fail) ↔ ((failures (view h) ≡ allowed h) × (n ≡ allowed h + 1))
+  abbrev FailsAt : Result Answer Refusal → ℕ → Type 0
+  FailsAt a n = (a ≡ Ok Answer.Fail) ↔ ((failures (view h) ≡ allowed h) × (n ≡ allowed h + 1))
 
-  quiet : {a : Answer} {n : ℕ} → is_fail a ≡ false → (failures (view h) ≡ allowed h → n ≡ allowed h + 1 → ⊥) → FailsAt a n
-  quiet off unmet = (λ e. absurd (never (sym off ∙ ap is_fail e)), λ both. absurd (unmet both.0 both.1))
+  quiet : {a : Result Answer Refusal} {n : ℕ} → (a ≡ Ok Answer.Fail → ⊥) → (failures (view h) ≡ allowed h → n ≡ allowed h + 1 → ⊥) → FailsAt a n
+  quiet off unmet = (λ e. absurd (off e), λ both. absurd (unmet both.0 both.1))
 
-  failure : s.phase ≡ Phase.Wait → FailsAt (cond (left h) Answer.Retry Answer.Fail) (failures (settle failed (view h)))
+  failure : s.phase ≡ Phase.Wait → FailsAt (cond (left h) (Ok Answer.Retry) (Ok Answer.Fail)) (failures (settle failed (view h)))
   failure w =
       let now = fails_now w in
       let before = used_out s h i w in
       let most = i.tried in
       let asked = i.asked in
-      by_test (λ (a : Answer). FailsAt a (failures (settle failed (view h)))) (left h)
-      (λ t. let l = ltb-true (failures (view h)) (allowed h) t in quiet refl (λ x y. omega arith))
+      by_test (λ (a : Result Answer Refusal). FailsAt a (failures (settle failed (view h)))) (left h)
+      (λ t. let l = ltb-true (failures (view h)) (allowed h) t in quiet (λ e. cc) (λ x y. omega arith))
       (λ t. let l = ltb-false (failures (view h)) (allowed h) t in (λ _. (omega arith, omega arith), λ _. refl))
 
   fails : (e : EntryOf F) → (is_answer e ≡ true → s.phase ≡ Phase.Wait) → FailsAt (word_by h e) (failures (view (e ∷ h)))
-  fails (started r) waited = quiet refl (λ x y. omega arith)
-  fails (sent f) waited = quiet refl (λ x y. omega arith)
+  fails (started r) waited = quiet (λ e. cc) (λ x y. omega arith)
+  fails (sent f) waited = quiet (λ e. cc) (λ x y. omega arith)
   fails acked waited =
       let now = then_count good refl s.used (settle good (view h)) (arrives_now (waited refl)) in
       let before = used_out s h i (waited refl) in
-      quiet refl (λ x y. omega arith)
+      quiet (λ e. cc) (λ x y. omega arith)
   fails nacked waited = failure (waited refl)
   fails timed_out waited = failure (waited refl)
   fails was_lost waited = failure (waited refl)
-  fails ended waited = quiet refl (λ x y. omega arith)
+  fails ended waited = quiet (λ e. cc) (λ x y. omega arith)
 
-  not_done : is_done (cond (left h) Answer.Retry Answer.Fail) ≡ false
-  not_done = by_test (λ (a : Answer). is_done a ≡ false) (left h) (λ t. refl) (λ t. refl)
+  not_done : ◌≡◌ {A = Result Answer Refusal} (cond (left h) (Ok Answer.Retry) (Ok Answer.Fail)) (Ok Answer.Done) → ⊥
+  not_done = by_test (λ (a : Result Answer Refusal). a ≡ Ok Answer.Done → ⊥) (left h) (λ t e. cc) (λ t e. cc)
 
-  delivers : (e : EntryOf F) → (is_answer e ≡ true → s.phase ≡ Phase.Wait) → is_done (word_by h e) ≡ true → Latest good (view (e ∷ h))
-  delivers (started r) waited q = impossible q
-  delivers (sent f) waited q = impossible q
+  delivers : (e : EntryOf F) → (is_answer e ≡ true → s.phase ≡ Phase.Wait) → word_by h e ≡ Ok Answer.Done → Latest good (view (e ∷ h))
+  delivers (started r) waited q = cc
+  delivers (sent f) waited q = cc
   delivers acked waited q = then_latest good s.used (settle good (view h)) (arrives_now (waited refl))
-  delivers nacked waited q = impossible (sym not_done ∙ q)
-  delivers timed_out waited q = impossible (sym not_done ∙ q)
-  delivers was_lost waited q = impossible (sym not_done ∙ q)
-  delivers ended waited q = impossible q
+  delivers nacked waited q = absurd (not_done q)
+  delivers timed_out waited q = absurd (not_done q)
+  delivers was_lost waited q = absurd (not_done q)
+  delivers ended waited q = cc
 
   -- a RESPONSE goes only in Ask, and an answer is taken only in Wait
   sends : (c : Call) (f g : F) → NoneGiven (causes_of c s) → entry_of c f ≡ sent g → (f ≡ g) × (s.phase ≡ Phase.Ask)
@@ -163,7 +146,7 @@ module _ {F : Type 0} (s : Reply) (h : List (EntryOf F)) (i : Inv s h) where
 
   module _ (bit : F → ℕ) where
     -- what the state says by itself, and of a call that adds es what it has to say
-    demand_of : (es : List (EntryOf F)) (next : Stepped) → (next.answer ≡ Answer.Done → Latest good (view (es ++ h)))
+    demand_of : (es : List (EntryOf F)) (next : Stepped) → (next.answer ≡ Ok Answer.Done → Latest good (view (es ++ h)))
         → ((f : F) → es ≡ sent f ∷ [] → (bit f ≡ retransmit_of s) × (s.phase ≡ Phase.Ask))
         → ((e : EntryOf F) → es ≡ e ∷ [] → is_answer e ≡ true → s.phase ≡ Phase.Wait) → FailsAt next.answer (failures (view (es ++ h)))
         → ((e : EntryOf F) → es ≡ e ∷ [] → next.answer ≡ word_by h e) → Replies bit s h es next
@@ -185,18 +168,18 @@ module _ {F : Type 0} (s : Reply) (h : List (EntryOf F)) (i : Inv s h) where
     -- a refused call moves nothing
     pub unmoved : (k : Refusal) → Replies bit s h [] (refused s k)
     unmoved k =
-        demand_of [] (refused s k) (λ e. absurd (never (ap is_done e))) (λ f e. no_entry e) (λ e q a. no_entry q)
-        (quiet refl (λ x y. omega arith)) (λ e q. no_entry q)
+        demand_of [] (refused s k) (λ e. cc) (λ f e. no_entry e) (λ e q a. no_entry q)
+        (quiet (λ e. cc) (λ x y. omega arith)) (λ e q. no_entry q)
 
     -- one that is taken, and sends f if it sends a RESPONSE
     pub moved : (c : Call) (f : F) → bit f ≡ retransmit_of s → NoneGiven (causes_of c s) → Replies bit s h (entry_of c f ∷ []) (goes_on c s)
     moved c f is off =
         let word = says c f off in
         let waited = answers c f off in
-        demand_of (entry_of c f ∷ []) (goes_on c s) (λ a. delivers (entry_of c f) waited (ap is_done (sym word ∙ a)))
+        demand_of (entry_of c f ∷ []) (goes_on c s) (λ a. delivers (entry_of c f) waited (sym word ∙ a))
         (λ g e. let b = sends c f g off (only e) in (ap bit (sym b.0) ∙ is, b.1))
         (λ e q a. waited (ap is_answer (only q) ∙ a))
-        (subst⁻¹ (λ (a : Answer). FailsAt a (failures (view (entry_of c f ∷ h)))) word (fails (entry_of c f) waited))
+        (subst⁻¹ (λ (a : Result Answer Refusal). FailsAt a (failures (view (entry_of c f ∷ h)))) word (fails (entry_of c f) waited))
         (λ e q. word ∙ ap (word_by h) (only q))
 
     pub demand : (c : Call) (f : F) → bit f ≡ retransmit_of s → Replies bit s h (entries c f (step_of c s).answer) (step_of c s)

@@ -1,4 +1,5 @@
 -- The examples, computed by the definitions. Assumes nothing.
+use Rattle.std.specs.Prelude.{Err, Ok}
 use mathlib.Core.List.{map}
 use mathlib.Core.Path.{◌≡◌, refl}
 use lib.ListN.{replicate}
@@ -14,10 +15,10 @@ unfolding keeps_rules failed
 replied = refl
 
 -- START takes the ends of R's range, and nothing past them
-pub takes : map (λ (c : Call). (step_of c unstarted).answer) in_ranges ≡ replicate 2 Answer.Ok
+pub takes : map (λ (c : Call). (step_of c unstarted).answer) in_ranges ≡ replicate 2 (Ok Answer.Ok)
 unfolding keeps_rules
 takes = refl
 
-pub takes_no_more : map (λ (c : Call). (step_of c unstarted).answer) past_ranges ≡ replicate 1 (Answer.Refused Refusal.Rules)
+pub takes_no_more : map (λ (c : Call). (step_of c unstarted).answer) past_ranges ≡ replicate 1 (Err Refusal.Rules)
 unfolding keeps_rules
 takes_no_more = refl

@@ -1,5 +1,6 @@
 -- A call on a reply is refused exactly by the first of its grounds that holds, since each of its tests decides one ground, and then the
 -- state is as it was. Assumes nothing.
+use Rattle.std.specs.Prelude.{Err, Result}
 use mathlib.Core.Bool.{Bool, true, false, not}
 use mathlib.Core.Logic.{◌↔◌}
 use mathlib.Core.Path.{◌≡◌, refl, sym, ap, ◌∙◌}
@@ -60,21 +61,21 @@ taken lost s = fail_taken s
 taken nexus s = refl
 taken cancel s = refl
 
-pub one : (j k : Refusal) → Answer.Refused j ≡ Answer.Refused k → j ≡ k
+pub one : (j k : Refusal) → ◌≡◌ {A = Result Answer Refusal} (Err j) (Err k) → j ≡ k
 one j k e = cc
 
 module _ (s : Reply) (c : Call) where
-  answers_is : (step_of c s).answer ≡ refuse Answer.Refused (causes_of c s) (goes_on c s).answer
+  answers_is : (step_of c s).answer ≡ refuse Err (causes_of c s) (goes_on c s).answer
   answers_is = causes.through (λ (st : Stepped). st.answer) (refused s) (causes_of c s) (goes_on c s)
 
-  apart : (j : Refusal) → (goes_on c s).answer ≡ Answer.Refused j → ⊥
+  apart : (j : Refusal) → (goes_on c s).answer ≡ Err j → ⊥
   apart j e = never (sym (taken c s) ∙ ap is_refused e)
 
   -- a call answers refusal k exactly if k is the first of its grounds that holds
-  pub refused_exactly : (k : Refusal) → ((step_of c s).answer ≡ Answer.Refused k) ↔ First (grounds_of c s) k
+  pub refused_exactly : (k : Refusal) → ((step_of c s).answer ≡ Err k) ↔ First (grounds_of c s) k
   refused_exactly k = (
-    λ e. causes.only Answer.Refused (goes_on c s).answer one apart (decides s c) k (sym answers_is ∙ e),
-    λ f. answers_is ∙ causes.if_first Answer.Refused (goes_on c s).answer one apart (decides s c) k f,
+    λ e. causes.only Err (goes_on c s).answer one apart (decides s c) k (sym answers_is ∙ e),
+    λ f. answers_is ∙ causes.if_first Err (goes_on c s).answer one apart (decides s c) k f,
   )
 
   abbrev Kept : Stepped → Type 0

@@ -1,5 +1,7 @@
 -- Refusals against the history: in a state that keeps its rules each test by which a call is refused is one of the history.
 -- Assumes nothing.
+use Rattle.refusals.specs.declared.Refusal.{Refusal}
+use Rattle.std.specs.Prelude.{Err, Ok, Result}
 use Prim.Native.Nat.{ℕ, zero, suc}
 use mathlib.Core.Bool.{Bool, true, false, not, cond, ◌&&◌}
 use mathlib.Core.List.{List, [], ◌∷◌}
@@ -23,14 +25,9 @@ use Rattle.reply.proofs.Refusals.{taken}
 use Rattle.reply.proofs.Invariant.{Failed, Then, Live, Inv, at_first, all_keep}
 
 -- an answer that is no refusal has no number
-none : (a : Answer) → is_refused a ≡ false → refusal_of a ≡ 0
-none Answer.Ok e = refl
-none Answer.Sent e = refl
-none Answer.Retry e = refl
-none Answer.Done e = refl
-none Answer.Fail e = refl
-none Answer.End e = refl
-none (Answer.Refused k) e = absurd (never (sym e))
+none : (a : Result Answer Refusal) → is_refused a ≡ false → refusal_of a ≡ 0
+none (Ok a) e = refl
+none (Err k) e = absurd (never (sym e))
 
 -- the number that a call answers is that of its first cause
 pub number_is : (s : Reply) (c : Call) → refusal_of (step_of c s).answer ≡ refuse number_of (causes_of c s) 0

@@ -1,5 +1,5 @@
 -- A call on a reply, and what some calls leave. Assumes nothing.
-use Rattle.std.specs.Prelude.{ℕ, not, ◌≡◌, List, [], ◌∷◌, ◌⊎◌}
+use Rattle.std.specs.Prelude.{ℕ, not, ◌≡◌, List, [], ◌∷◌, ◌⊎◌, Ok}
 use Rattle.refusals.specs.Causes.{Cause, ◌when◌, refuse}
 use Rattle.refusals.specs.declared.Refusal.{Refusal}
 use Rattle.reply.specs.Rules.{in_range, unstarted}
@@ -46,7 +46,7 @@ run (c ∷ cs) s = run cs (step_of c s).state
 -- a START of the state before START is taken, and the calls after it leave s
 pub record Left (s : Reply) : Type 0 where
   pub r : ℕ
-  pub taken : (step_of (start r) unstarted).answer ≡ Answer.Ok
+  pub taken : (step_of (start r) unstarted).answer ≡ Ok Answer.Ok
   pub calls : List Call
   pub leave : run calls (step_of (start r) unstarted).state ≡ s
 

@@ -1,6 +1,6 @@
 -- What is asked of a reply, sentence by sentence: of a reply s with the history h, and of one call more, answered `next`, that adds the
 -- entries es. F is what the history holds of a RESPONSE, and `bit` its retransmit bit. Assumes nothing.
-use Rattle.std.specs.Prelude.{ℕ, ◌+◌, ◌≤◌, true, List, [], ◌∷◌, ◌++◌, ◌⊎◌, ◌↔◌, ◌≡◌, length}
+use Rattle.std.specs.Prelude.{ℕ, ◌+◌, ◌≤◌, true, List, [], ◌∷◌, ◌++◌, ◌⊎◌, ◌↔◌, ◌≡◌, length, Ok}
 use Rattle.laws.specs.Names.{flag}
 use Rattle.reply.specs.Steps.{unfinished}
 use Rattle.reply.specs.History.{EntryOf, sent, due, good, failed, view, allowed, last_failed, failures, Latest, is_answer}
@@ -12,7 +12,7 @@ use Rattle.reply.specs.declared.Phase.{Phase}
 
 pub record Replies {F : Type 0} (bit : F → ℕ) (s : Reply) (h es : List (EntryOf F)) (next : Stepped) : Type 0 where
   -- delivered only if the latest RESPONSE's ACK was reported;
-  pub delivered : next.answer ≡ Answer.Done → Latest good (view (es ++ h))
+  pub delivered : next.answer ≡ Ok Answer.Done → Latest good (view (es ++ h))
   pub sure : s.phase ≡ Phase.Done → Latest good (view h)
   -- retransmit exactly if the one before it since START failed;
   pub retransmit : (f : F) → es ≡ sent f ∷ [] → bit f ≡ flag (last_failed (view h))
@@ -26,7 +26,7 @@ pub record Replies {F : Type 0} (bit : F → ℕ) (s : Reply) (h es : List (Entr
   pub asked : s.resends ≡ allowed h
   pub used : unfinished s.phase ≡ true → (s.used ≡ failures (view h)) × (failures (view h) ≤ allowed h)
   -- Fail exactly at failure R+1;
-  pub fails : (next.answer ≡ Answer.Fail) ↔ ((failures (view h) ≡ allowed h) × (failures (view (es ++ h)) ≡ allowed h + 1))
+  pub fails : (next.answer ≡ Ok Answer.Fail) ↔ ((failures (view h) ≡ allowed h) × (failures (view (es ++ h)) ≡ allowed h + 1))
   -- the reply is unfinished exactly if the history says so, and every call that is taken answers the history's word
   pub lives : unfinished s.phase ≡ underway h
   pub word : (e : EntryOf F) → es ≡ e ∷ [] → next.answer ≡ word_by h e

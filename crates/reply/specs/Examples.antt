@@ -1,5 +1,6 @@
 -- The lines of a listing, and STARTs at the ends of R's range. Assumes nothing.
-use Rattle.std.specs.Prelude.{ℕ, ◌+◌, List, [], ◌∷◌}
+use Rattle.refusals.specs.declared.Refusal.{Refusal}
+use Rattle.std.specs.Prelude.{ℕ, ◌+◌, List, [], ◌∷◌, Ok, Result}
 use Rattle.reply.specs.Steps.{retransmit_of}
 use Rattle.reply.specs.Calls.{Call, start, respond, ack, nak, timeout, lost, step_of}
 use Rattle.reply.specs.declared.Reply.{Reply}
@@ -8,11 +9,11 @@ use Rattle.reply.specs.declared.Answer.{Answer}
 -- line number, word, the retransmit bit of the RESPONSE that is due or out, resends used
 pub record Line : Type 0 where
   pub number : ℕ
-  pub word : Answer
+  pub word : Result Answer Refusal
   pub retransmit : ℕ
   pub used : ℕ
 
-abbrev pub line : ℕ → Answer → ℕ → ℕ → Line
+abbrev pub line : ℕ → Result Answer Refusal → ℕ → ℕ → Line
 line number word retransmit used = record { number = number; word = word; retransmit = retransmit; used = used }
 
 -- what some calls of s give, from line i on
@@ -26,16 +27,16 @@ listed = start 2 ∷ respond ∷ nak ∷ respond ∷ lost ∷ respond ∷ ack �
 
 abbrev pub output : List Line
 output =
-    line 1 Answer.Ok 0 0
-    ∷ line 2 Answer.Sent 0 0
-    ∷ line 3 Answer.Retry 1 1
-    ∷ line 4 Answer.Sent 1 1
-    ∷ line 5 Answer.Retry 1 2
-    ∷ line 6 Answer.Sent 1 2
-    ∷ line 7 Answer.Done 1 2
-    ∷ line 8 Answer.Ok 0 0
-    ∷ line 9 Answer.Sent 0 0
-    ∷ line 10 Answer.Fail 0 0
+    line 1 (Ok Answer.Ok) 0 0
+    ∷ line 2 (Ok Answer.Sent) 0 0
+    ∷ line 3 (Ok Answer.Retry) 1 1
+    ∷ line 4 (Ok Answer.Sent) 1 1
+    ∷ line 5 (Ok Answer.Retry) 1 2
+    ∷ line 6 (Ok Answer.Sent) 1 2
+    ∷ line 7 (Ok Answer.Done) 1 2
+    ∷ line 8 (Ok Answer.Ok) 0 0
+    ∷ line 9 (Ok Answer.Sent) 0 0
+    ∷ line 10 (Ok Answer.Fail) 0 0
     ∷ []
 
 -- the least and the largest R that START takes

@@ -1,6 +1,7 @@
 -- The history of a reply, and what it says of the RESPONSEs. It is read from the calls that were taken and from the RESPONSEs that went
 -- alone: no state is read here, and of an answer only whether it is a refusal. Assumes nothing.
-use Rattle.std.specs.Prelude.{ℕ, suc, Bool, true, false, cond, List, [], ◌∷◌, ◌≡◌}
+use Rattle.refusals.specs.declared.Refusal.{Refusal}
+use Rattle.std.specs.Prelude.{ℕ, suc, Bool, true, false, cond, List, [], ◌∷◌, ◌≡◌, Result, is_err}
 use Rattle.reply.specs.Calls.{Call, start, respond, ack, nak, timeout, lost, nexus, cancel}
 use Rattle.reply.specs.declared.Answer.{Answer}
 
@@ -21,17 +22,11 @@ entry_of lost f = was_lost
 entry_of nexus f = ended
 entry_of cancel f = ended
 
-abbrev pub is_refused : Answer → Bool
-is_refused Answer.Ok = false
-is_refused Answer.Sent = false
-is_refused Answer.Retry = false
-is_refused Answer.Done = false
-is_refused Answer.Fail = false
-is_refused Answer.End = false
-is_refused (Answer.Refused k) = true
+abbrev pub is_refused : Result Answer Refusal → Bool
+is_refused a = is_err a
 
 -- what a call adds to the history, where f is the RESPONSE that it sent if it sends one; a refused call adds nothing
-abbrev pub entries : {F : Type 0} → Call → F → Answer → List (EntryOf F)
+abbrev pub entries : {F : Type 0} → Call → F → Result Answer Refusal → List (EntryOf F)
 entries c f a = cond (is_refused a) [] (entry_of c f ∷ [])
 
 -- what became of a RESPONSE: its answer is due; its ACK was reported; its NAK, TIMEOUT or LOST was

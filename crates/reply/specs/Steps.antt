@@ -1,5 +1,5 @@
 -- The reply: what each call answers and leaves, row by row, and when it is refused. Assumes nothing.
-use Rattle.std.specs.Prelude.{ℕ, ◌+◌, Bool, true, false, not, cond, ◌||◌, List, [], ◌∷◌, ltb}
+use Rattle.std.specs.Prelude.{ℕ, ◌+◌, Bool, true, false, not, cond, ◌||◌, List, [], ◌∷◌, ltb, Err, Ok, Result}
 use Rattle.laws.specs.Names.{flag}
 use Rattle.refusals.specs.Causes.{Cause, ◌when◌}
 use Rattle.refusals.specs.declared.Refusal.{Refusal}
@@ -9,12 +9,12 @@ use Rattle.reply.specs.declared.Stepped.{Stepped}
 use Rattle.reply.specs.declared.Answer.{Answer}
 use Rattle.reply.specs.declared.Phase.{Phase}
 
-abbrev pub say : Answer → Reply → Stepped
+abbrev pub say : Result Answer Refusal → Reply → Stepped
 say a s = record { answer = a; state = s }
 
 -- a refusal leaves the state as it was
 abbrev pub refused : Reply → Refusal → Stepped
-refused s k = say (Answer.Refused k) s
+refused s k = say (Err k) s
 
 abbrev pub in_phase : Phase → Reply → Reply
 in_phase p s = record { resends = s.resends; used = s.used; phase = p }
@@ -42,12 +42,12 @@ unfinished p = asks p || waits p
 
 -- START R: Ask (ok)
 abbrev pub started : ℕ → Stepped
-started r = say Answer.Ok (record { resends = r; used = 0; phase = Phase.Ask })
+started r = say (Ok Answer.Ok) (record { resends = r; used = 0; phase = Phase.Ask })
 
 -- 02 c.3: Also RESPONSE frames with their retry.
 -- RESPONSE in Ask: Wait (sent)
 abbrev pub responded : Reply → Stepped
-responded s = say Answer.Sent (in_phase Phase.Wait s)
+responded s = say (Ok Answer.Sent) (in_phase Phase.Wait s)
 
 -- retransmit 1 exactly if used > 0
 abbrev pub retransmit_of : Reply → ℕ
@@ -55,18 +55,18 @@ retransmit_of s = flag (ltb 0 s.used)
 
 -- in Wait, ACK: Done (done)
 abbrev pub acked : Reply → Stepped
-acked s = say Answer.Done (in_phase Phase.Done s)
+acked s = say (Ok Answer.Done) (in_phase Phase.Done s)
 
 -- in Wait, NAK, TIMEOUT and LOST: used+1, Ask (retry), or with used = R Fail (fail)
 unfoldable pub failed : Reply → Stepped
 failed s =
     cond (ltb s.used s.resends)
-    (say Answer.Retry (record { resends = s.resends; used = s.used + 1; phase = Phase.Ask }))
-    (say Answer.Fail (in_phase Phase.Fail s))
+    (say (Ok Answer.Retry) (record { resends = s.resends; used = s.used + 1; phase = Phase.Ask }))
+    (say (Ok Answer.Fail) (in_phase Phase.Fail s))
 
 -- NEXUS, CANCEL in Ask or Wait: End (end)
 abbrev pub ended : Reply → Stepped
-ended s = say Answer.End (in_phase Phase.End s)
+ended s = say (Ok Answer.End) (in_phase Phase.End s)
 
 -- 3, a lent state breaks its rules; 6, the call doesn't fit the state
 abbrev pub causes : Bool → Reply → List Cause

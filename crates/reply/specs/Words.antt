@@ -1,6 +1,7 @@
 -- The words and refusals of a reply a second time, by the history: from the RESPONSEs and answers before a call, and the call itself. No state
 -- is read here. Assumes nothing.
-use Rattle.std.specs.Prelude.{ℕ, Bool, true, false, not, cond, ◌&&◌, List, [], ◌∷◌, ltb}
+use Rattle.refusals.specs.declared.Refusal.{Refusal}
+use Rattle.std.specs.Prelude.{ℕ, Bool, true, false, not, cond, ◌&&◌, List, [], ◌∷◌, ltb, Err, Ok, Result}
 use Rattle.refusals.specs.Refusals.{number_of}
 use Rattle.reply.specs.Rules.{in_range}
 use Rattle.reply.specs.Calls.{Call, start, respond, ack, nak, timeout, lost, nexus, cancel}
@@ -23,24 +24,19 @@ underway (was_lost ∷ older) = left older
 underway (ended ∷ older) = false
 
 -- the word of a call that is taken and adds an entry, with the history before it
-abbrev pub word_by : {F : Type 0} → List (EntryOf F) → EntryOf F → Answer
-word_by h (started r) = Answer.Ok
-word_by h (sent f) = Answer.Sent
-word_by h acked = Answer.Done
-word_by h nacked = cond (left h) Answer.Retry Answer.Fail
-word_by h timed_out = cond (left h) Answer.Retry Answer.Fail
-word_by h was_lost = cond (left h) Answer.Retry Answer.Fail
-word_by h ended = Answer.End
+abbrev pub word_by : {F : Type 0} → List (EntryOf F) → EntryOf F → Result Answer Refusal
+word_by h (started r) = Ok Answer.Ok
+word_by h (sent f) = Ok Answer.Sent
+word_by h acked = Ok Answer.Done
+word_by h nacked = cond (left h) (Ok Answer.Retry) (Ok Answer.Fail)
+word_by h timed_out = cond (left h) (Ok Answer.Retry) (Ok Answer.Fail)
+word_by h was_lost = cond (left h) (Ok Answer.Retry) (Ok Answer.Fail)
+word_by h ended = Ok Answer.End
 
 -- the number of a refusal, 0 where there is none
-abbrev pub refusal_of : Answer → ℕ
-refusal_of Answer.Ok = 0
-refusal_of Answer.Sent = 0
-refusal_of Answer.Retry = 0
-refusal_of Answer.Done = 0
-refusal_of Answer.Fail = 0
-refusal_of Answer.End = 0
-refusal_of (Answer.Refused k) = number_of k
+abbrev pub refusal_of : Result Answer Refusal → ℕ
+refusal_of (Ok a) = 0
+refusal_of (Err k) = number_of k
 
 -- what a call is refused for, 0 if it is taken: a START with R out of range, or of an unfinished reply; a RESPONSE but where one is due, an
 -- answer but where its RESPONSE is out, NEXUS and CANCEL but while unfinished

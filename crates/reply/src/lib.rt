@@ -11,7 +11,7 @@ use refusals::Refusal;
 mod rules;
 mod steps;
 
-#[derive(Clone, Copy)]
+#[derive(Clone, Copy, PartialEq, Eq)]
 pub enum Phase {
     // Before START.
     New,
@@ -40,10 +40,9 @@ pub enum Answer {
     Done,
     Fail,
     End,
-    Refused(Refusal),
 }
 
-#[derive(Clone, Copy)]
+#[derive(Clone, Copy, PartialEq, Eq)]
 pub struct Reply {
     // R, the resends allowed.
     pub resends: u32,
@@ -52,9 +51,10 @@ pub struct Reply {
     pub phase: Phase,
 }
 
+// A type of its own for each machine: a generic one would name both types wherever a clause now says Stepped.
 #[derive(Clone, Copy)]
 pub struct Stepped {
-    pub answer: Answer,
+    pub answer: Result<Answer, Refusal>,
     pub state: Reply,
 }
 
@@ -76,30 +76,38 @@ impl Reply {
         if !rules::in_range(r) {
             return self.refused(Refusal::Rules);
         }
-        let p = self.phase;
-        self.checked(steps::unfinished(p), steps::started(r))
+        if let Err(k) = self.checked(self.phase.unfinished()) {
+            return self.refused(k);
+        }
+        steps::started(r)
     }
 
     // The RESPONSE goes.
     pub fn respond(self) -> Stepped
         ensures { result ≡ step_of respond self }
     {
-        let p = self.phase;
-        self.checked(!steps::asks(p), self.in_phase(Answer::Sent, Phase::Wait))
+        if let Err(k) = self.checked(!self.phase.asks()) {
+            return self.refused(k);
+        }
+        self.in_phase(Answer::Sent, Phase::Wait)
     }
 
     pub fn ack(self) -> Stepped
         ensures { result ≡ step_of ack self }
     {
-        let p = self.phase;
-        self.checked(!steps::waits(p), self.in_phase(Answer::Done, Phase::Done))
+        if let Err(k) = self.checked(!self.phase.waits()) {
+            return self.refused(k);
+        }
+        self.in_phase(Answer::Done, Phase::Done)
     }
 
     pub fn nak(self) -> Stepped
         ensures { result ≡ step_of nak self }
     {
-        let p = self.phase;
-        self.checked(!steps::waits(p), self.failed())
+        if let Err(k) = self.checked(!self.phase.waits()) {
+            return self.refused(k);
+        }
+        self.failed()
     }
 
     pub fn timeout(self) -> Stepped
@@ -123,10 +131,9 @@ impl Reply {
     pub fn cancel(self) -> Stepped
         ensures { result ≡ step_of cancel self }
     {
-        let p = self.phase;
-        self.checked(
-            !steps::unfinished(p),
-            self.in_phase(Answer::End, Phase::End),
-        )
+        if let Err(k) = self.checked(!self.phase.unfinished()) {
+            return self.refused(k);
+        }
+        self.in_phase(Answer::End, Phase::End)
     }
 }

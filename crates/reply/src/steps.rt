@@ -6,44 +6,25 @@ ghost use Rattle.reply.specs.Steps as steps;
 use crate::{Answer, Phase, Reply, Stepped};
 use refusals::Refusal;
 
-// A RESPONSE is due.
-pub(crate) fn asks(p: Phase) -> bool
-    ensures { result ≡ steps.asks p }
-{
-    match p {
-        Phase::New => false,
-        Phase::Ask => true,
-        Phase::Wait => false,
-        Phase::Done => false,
-        Phase::Fail => false,
-        Phase::End => false,
+impl Phase {
+    // A RESPONSE is due.
+    pub(crate) fn asks(self) -> bool
+        ensures { result ≡ steps.asks self }
+    {
+        matches!(self, Phase::Ask)
     }
-}
 
-// Its ACK, NAK or loss is due.
-pub(crate) fn waits(p: Phase) -> bool
-    ensures { result ≡ steps.waits p }
-{
-    match p {
-        Phase::New => false,
-        Phase::Ask => false,
-        Phase::Wait => true,
-        Phase::Done => false,
-        Phase::Fail => false,
-        Phase::End => false,
+    // Its ACK, NAK or loss is due.
+    pub(crate) fn waits(self) -> bool
+        ensures { result ≡ steps.waits self }
+    {
+        matches!(self, Phase::Wait)
     }
-}
 
-pub(crate) fn unfinished(p: Phase) -> bool
-    ensures { result ≡ steps.unfinished p }
-{
-    match p {
-        Phase::New => false,
-        Phase::Ask => true,
-        Phase::Wait => true,
-        Phase::Done => false,
-        Phase::Fail => false,
-        Phase::End => false,
+    pub(crate) fn unfinished(self) -> bool
+        ensures { result ≡ steps.unfinished self }
+    {
+        matches!(self, Phase::Ask | Phase::Wait)
     }
 }
 
@@ -52,7 +33,7 @@ pub(crate) fn started(r: u32) -> Stepped
     ensures { result ≡ steps.started r }
 {
     Stepped {
-        answer: Answer::Ok,
+        answer: Ok(Answer::Ok),
         state: Reply {
             resends: r,
             used: 0,
@@ -67,30 +48,27 @@ impl Reply {
         ensures { result ≡ steps.refused self k }
     {
         Stepped {
-            answer: Answer::Refused(k),
+            answer: Err(k),
             state: self,
         }
     }
 
     // An answer, with the state in another phase.
-    pub(crate) fn in_phase(self, answer: Answer, p: Phase) -> Stepped
-        ensures { result ≡ steps.say answer (steps.in_phase p self) }
+    pub(crate) fn in_phase(self, answer: Answer, phase: Phase) -> Stepped
+        ensures { result ≡ steps.say (Ok answer) (steps.in_phase phase self) }
     {
         Stepped {
-            answer,
-            state: Reply {
-                resends: self.resends,
-                used: self.used,
-                phase: p,
-            },
+            answer: Ok(answer),
+            state: Reply { phase, ..self },
         }
     }
 
+    // A number, as the frame's field is one.
     // The retransmit bit of the RESPONSE that goes.
     pub fn retransmit(self) -> u8
         ensures { result ≡ steps.retransmit_of self }
     {
-        if 0 < self.used { 1 } else { 0 }
+        u8::from(0 < self.used)
     }
 
     // A NAK, TIMEOUT or LOST.
@@ -99,22 +77,22 @@ impl Reply {
         ensures { result ≡ steps.failed self }
     {
         if self.used < self.resends {
-            self.used = self.used + 1;
+            self.used += 1;
             return self.in_phase(Answer::Retry, Phase::Ask);
         }
         self.in_phase(Answer::Fail, Phase::Fail)
     }
 
-    // What a call comes to that is unfit for the state or not, and does `next` unless it is refused.
-    pub(crate) fn checked(self, unfit: bool, next: Stepped) -> Stepped
-        ensures { result ≡ refuse (steps.refused self) (steps.causes unfit self) next }
+    // What a call is refused for that is unfit for the state or not.
+    pub(crate) fn checked(self, unfit: bool) -> Result<(), Refusal>
+        ensures { result ≡ refuse Err (steps.causes unfit self) (Ok tt) }
     {
         if !self.keeps_rules() {
-            return self.refused(Refusal::Rules);
+            return Err(Refusal::Rules);
         }
         if unfit {
-            return self.refused(Refusal::Unfit);
+            return Err(Refusal::Unfit);
         }
-        next
+        Ok(())
     }
 }

@@ -1,4 +1,6 @@
 -- What is asked of a reply is said of the numbers by which the reply is shown. Assumes nothing.
+use Rattle.refusals.specs.declared.Refusal.{Refusal}
+use Rattle.std.specs.Prelude.{Err, Ok, Result}
 use Prim.Native.Nat.{ℕ}
 use mathlib.Core.Bool.{Bool, false, cond}
 use mathlib.Core.List.{List, [], ◌∷◌, ◌++◌, map}
@@ -47,7 +49,7 @@ unfinished_shown t = means (unfinished_says t.phase) (there, back)
     back (inr e) = inr (one_phase t.phase Phase.Wait e)
 
 -- an answer is told by its number
-told_is : (a b : Answer) {P : Type 0} → (a ≡ b) ↔ P → (answer_number a ≡ answer_number b) ↔ P
+told_is : (a b : Result Answer Refusal) {P : Type 0} → (a ≡ b) ↔ P → (answer_number a ≡ answer_number b) ↔ P
 told_is a b is = (λ e. is.0 (one_answer a b e), λ p. ap answer_number (is.1 p))
 
 pub demand_shown : {F : Type 0} (bit : F → ℕ) (t : Reply) (h es : List (EntryOf F)) (st : Stepped)
@@ -55,7 +57,7 @@ pub demand_shown : {F : Type 0} (bit : F → ℕ) (t : Reply) (h es : List (Entr
 demand_shown bit t h es st d =
     let said = unfinished_shown t in
     record {
-      delivered = λ e. d.delivered (one_answer st.answer Answer.Done e);
+      delivered = λ e. d.delivered (one_answer st.answer (Ok Answer.Done) e);
       sure = λ e. d.sure (one_phase t.phase Phase.Done e);
       retransmit = d.retransmit;
       goes = d.goes;
@@ -63,19 +65,19 @@ demand_shown bit t h es st d =
       awaited = d.awaited;
       asked = d.asked;
       used = λ u. d.used (said.1 u);
-      fails = told_is st.answer Answer.Fail d.fails;
+      fails = told_is st.answer (Ok Answer.Fail) d.fails;
       lives = (λ u. sym d.lives ∙ said.1 u, λ e. said.0 (d.lives ∙ e));
       word = λ e q. ap answer_number (d.word e q);
     }
 
-refusal_is : (a : Answer) → refusal_in (answer_number a) ≡ refusal_of a
-refusal_is Answer.Ok = refl
-refusal_is Answer.Sent = refl
-refusal_is Answer.Retry = refl
-refusal_is Answer.Done = refl
-refusal_is Answer.Fail = refl
-refusal_is Answer.End = refl
-refusal_is (Answer.Refused k) = ap (λ (t : Bool). cond t (number_of k) 0) (refusal_told (Answer.Refused k))
+refusal_is : (a : Result Answer Refusal) → refusal_in (answer_number a) ≡ refusal_of a
+refusal_is (Ok Answer.Ok) = refl
+refusal_is (Ok Answer.Sent) = refl
+refusal_is (Ok Answer.Retry) = refl
+refusal_is (Ok Answer.Done) = refl
+refusal_is (Ok Answer.Fail) = refl
+refusal_is (Ok Answer.End) = refl
+refusal_is (Err k) = ap (λ (t : Bool). cond t (number_of k) 0) (refusal_told (Err k))
 
 all_typed : (cs : List Call) → AllTyped cs → machine.AllTyped (map call_of cs)
 all_typed [] typed = tt

@@ -1,5 +1,6 @@
 -- What C is refused for: what respond is given, then the grounds of the numbers that were lent; 3 tells apart what no calls gave back, and whatever is
 -- refused comes back as it was lent. Assumes nothing.
+use Rattle.std.specs.Prelude.{Err, Ok, Result}
 use Prim.Native.Nat.{ℕ}
 use mathlib.Core.Bool.{Bool, true, false, cond}
 use mathlib.Core.List.{List, [], ◌++◌}
@@ -80,7 +81,7 @@ step_is (respond destination source tag present status body out) t =
     (given_listed t destination source tag present status)
 
 answer_is : (c : Call) (t : Reply)
-    → (machine.step_of (call_of c) t).answer ≡ refuse Answer.Refused (given_causes c ++ causes_of (plainly_made c) t) (goes_on (plainly_made c) t).answer
+    → (machine.step_of (call_of c) t).answer ≡ refuse Err (given_causes c ++ causes_of (plainly_made c) t) (goes_on (plainly_made c) t).answer
 answer_is c t =
     ap (λ (st : Stepped). st.answer) (step_is c t)
     ∙ causes.through (λ (st : Stepped). st.answer) (refused t) (given_causes c ++ causes_of (plainly_made c) t) (goes_on (plainly_made c) t)
@@ -122,10 +123,10 @@ module _ (s : State) where
   decides (respond destination source tag present status body out) = unfit (unless (asks_seen s.phase))
 
 module _ (c : Call) (s : State) where
-  abbrev done : Answer
+  abbrev done : Result Answer Refusal
   done = (goes_on (plainly_made c) (state_of s)).answer
 
-  apart : (j : Refusal) → done ≡ Answer.Refused j → ⊥
+  apart : (j : Refusal) → done ≡ Err j → ⊥
   apart j e = never (sym (taken (plainly_made c) (state_of s)) ∙ ap is_refused e)
 
   -- a call answers the number of refusal k exactly if k is the first ground that holds, where gs are those of what it is given
@@ -133,22 +134,22 @@ module _ (c : Call) (s : State) where
   refused_exactly given k =
       let all = causes.decides_append given (decides s c) in
       let is = answer_is c (state_of s) in (
-        λ e. causes.only Answer.Refused done one apart all k (sym is ∙ refused_told (machine.step_of (call_of c) (state_of s)).answer k e),
-        λ f. ap answer_number (is ∙ causes.if_first Answer.Refused done one apart all k f),
+        λ e. causes.only Err done one apart all k (sym is ∙ refused_told (machine.step_of (call_of c) (state_of s)).answer k e),
+        λ f. ap answer_number (is ∙ causes.if_first Err done one apart all k f),
       )
 
 -- ---- refusal 3
 
 -- the causes of what was given have other numbers
-behind_given : (sized listed : Bool) {P : Type 0} (a : Answer) → (a ≡ Answer.Refused Refusal.Rules) ↔ P
-    → (refuse Answer.Refused (buffer_causes sized listed) a ≡ Answer.Refused Refusal.Rules) ↔ (((sized ≡ true) × (listed ≡ true)) × P)
+behind_given : (sized listed : Bool) {P : Type 0} (a : Result Answer Refusal) → (a ≡ Err Refusal.Rules) ↔ P
+    → (refuse Err (buffer_causes sized listed) a ≡ Err Refusal.Rules) ↔ (((sized ≡ true) × (listed ≡ true)) × P)
 behind_given false listed a is = (λ e. let z : ◌≡◌ {A = ℕ} 1 3 = ap answer_number e in absurd (omega arith), λ h. impossible h.0.0)
 behind_given true false a is = (λ e. let z : ◌≡◌ {A = ℕ} 2 3 = ap answer_number e in absurd (omega arith), λ h. impossible h.0.1)
 behind_given true true a is = (λ e. ((refl, refl), is.0 e), λ h. is.1 h.1)
 
 module _ (s : State) where
-  abbrev Three : Answer → Type 0
-  Three a = a ≡ Answer.Refused Refusal.Rules
+  abbrev Three : Result Answer Refusal → Type 0
+  Three a = a ≡ Err Refusal.Rules
 
   plainly_three : (c : plainly.Call) → Three (plainly.step_of c (state_of s)).answer ↔ (plainly'.OutOfRange c ⊎ (Reached s → ⊥))
   plainly_three c =
@@ -171,7 +172,7 @@ module _ (s : State) where
       let last = plainly_three plainly.Call.respond in
       let all =
       behind_given (response_sized present (length body) (length out)) (response_listed (given destination source tag present status))
-      (refuse Answer.Refused (causes_of plainly.Call.respond (state_of s)) Answer.Sent) (λ e. last.0 (own ∙ e), λ h. sym own ∙ last.1 h) in
+      (refuse Err (causes_of plainly.Call.respond (state_of s)) (Ok Answer.Sent)) (λ e. last.0 (own ∙ e), λ h. sym own ∙ last.1 h) in
       let is = answer_is c (state_of s) in
       (λ e. all.0 (sym is ∙ e), λ h. is ∙ all.1 h)
 

@@ -1,5 +1,7 @@
 -- C's calls are the reply's calls on what is shown: a state that was shown is read back as it was, and a refusal leaves it, so each call gives back the
 -- next one shown, and its answer, its bytes and its entry say the same. Assumes nothing.
+use Rattle.refusals.specs.declared.Refusal.{Refusal}
+use Rattle.std.specs.Prelude.{Err, Ok, Result}
 use mathlib.Core.Bool.{true, cond}
 use mathlib.Core.List.{List, [], ◌∷◌, ◌++◌, map}
 use mathlib.Core.Path.{◌≡◌, refl, sym, ap, ◌∙◌}
@@ -25,14 +27,14 @@ use Rattle.reply_lent.proofs.Told.{within}
 use Rattle.reply_lent.proofs.Members.{shown_back}
 
 -- a refusal is told by its number
-pub refusal_told : (a : Answer) → is_refusal (answer_number a) ≡ is_refused a
-refusal_told Answer.Ok = refl
-refusal_told Answer.Sent = refl
-refusal_told Answer.Retry = refl
-refusal_told Answer.Done = refl
-refusal_told Answer.Fail = refl
-refusal_told Answer.End = refl
-refusal_told (Answer.Refused k) = within k
+pub refusal_told : (a : Result Answer Refusal) → is_refusal (answer_number a) ≡ is_refused a
+refusal_told (Ok Answer.Ok) = refl
+refusal_told (Ok Answer.Sent) = refl
+refusal_told (Ok Answer.Retry) = refl
+refusal_told (Ok Answer.Done) = refl
+refusal_told (Ok Answer.Fail) = refl
+refusal_told (Ok Answer.End) = refl
+refusal_told (Err k) = within k
 
 -- ---- the state
 

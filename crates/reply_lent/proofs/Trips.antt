@@ -1,4 +1,5 @@
 -- Each phase's number is its place in the list; an answer that is no refusal is found by its number, which no refusal has. Assumes nothing.
+use Rattle.std.specs.Prelude.{Err, Ok, Result}
 use Prim.Native.Nat.{ℕ, ◌<◌}
 use mathlib.Core.List.{List, [], ◌∷◌}
 use mathlib.Core.Logic.{inl, inr}
@@ -11,7 +12,7 @@ use Rattle.refusals.specs.Refusals.{number_of}
 use Rattle.refusals.specs.declared.Refusal.{Refusal}
 use Rattle.reply.specs.declared.Phase.{Phase}
 use Rattle.reply.specs.declared.Answer.{Answer}
-use Rattle.reply.specs.declared.Answer.TheVariants.{Ok, Sent, Retry, Done, Fail, End, Refused}
+use Rattle.reply.specs.declared.Answer.TheVariants.{Sent, Retry, Done, Fail, End}
 use Rattle.reply_lent.specs.Numbers.{phase_number, phases, phase_of, answer_number}
 use Rattle.reply_lent.proofs.Told.{zero_free, past_free, Told, one}
 
@@ -36,22 +37,22 @@ pub one_phase : (p q : Phase) → phase_number p ≡ phase_number q → p ≡ q
 one_phase p q e = sym (phase_back p).1 ∙ ap phase_of e ∙ (phase_back q).1
 
 -- whatever is no refusal
-abbrev happened : List Answer
-happened = Ok ∷ Sent ∷ Retry ∷ Done ∷ Fail ∷ End ∷ []
+abbrev happened : List (Result Answer Refusal)
+happened = (Ok Answer.Ok) ∷ (Ok Sent) ∷ (Ok Retry) ∷ (Ok Done) ∷ (Ok Fail) ∷ (Ok End) ∷ []
 
-answer_told : (a : Answer) → Told answer_number Refused happened Ok a
-answer_told Ok = inr (zero_free, refl)
-answer_told Sent = inr (past_free (omega arith), refl)
-answer_told Retry = inr (past_free (omega arith), refl)
-answer_told Done = inr (past_free (omega arith), refl)
-answer_told Fail = inr (past_free (omega arith), refl)
-answer_told End = inr (past_free (omega arith), refl)
-answer_told (Refused k) = inl (k, refl)
+answer_told : (a : Result Answer Refusal) → Told answer_number Err happened (Ok Answer.Ok) a
+answer_told (Ok Answer.Ok) = inr (zero_free, refl)
+answer_told (Ok Sent) = inr (past_free (omega arith), refl)
+answer_told (Ok Retry) = inr (past_free (omega arith), refl)
+answer_told (Ok Done) = inr (past_free (omega arith), refl)
+answer_told (Ok Fail) = inr (past_free (omega arith), refl)
+answer_told (Ok End) = inr (past_free (omega arith), refl)
+answer_told (Err k) = inl (k, refl)
 
 -- no two answers share a number
-pub one_answer : (a b : Answer) → answer_number a ≡ answer_number b → a ≡ b
-one_answer a b = one answer_number Refused happened Ok (λ k. refl) a b (answer_told a) (answer_told b)
+pub one_answer : (a b : Result Answer Refusal) → answer_number a ≡ answer_number b → a ≡ b
+one_answer a b = one answer_number Err happened (Ok Answer.Ok) (λ k. refl) a b (answer_told a) (answer_told b)
 
 -- a refusal is told by its number
-pub refused_told : (a : Answer) (k : Refusal) → answer_number a ≡ number_of k → a ≡ Refused k
-refused_told a k e = one_answer a (Refused k) e
+pub refused_told : (a : Result Answer Refusal) (k : Refusal) → answer_number a ≡ number_of k → a ≡ Err k
+refused_told a k e = one_answer a (Err k) e

@@ -1,6 +1,7 @@
 -- The numbers of a reply's phases and of what its calls answer. Past the last phase's number the last stands in, and nobody asks.
 -- Assumes nothing.
-use Rattle.std.specs.Prelude.{ℕ, List, [], ◌∷◌, get_or}
+use Rattle.refusals.specs.declared.Refusal.{Refusal}
+use Rattle.std.specs.Prelude.{ℕ, List, [], ◌∷◌, get_or, Err, Ok, Result}
 use Rattle.refusals.specs.Refusals.{number_of}
 use Rattle.reply.specs.declared.Answer.{Answer}
 use Rattle.reply.specs.declared.Phase.{Phase}
@@ -19,11 +20,11 @@ phases = Phase.New ∷ Phase.Ask ∷ Phase.Wait ∷ Phase.Done ∷ Phase.Fail �
 abbrev pub phase_of : ℕ → Phase
 phase_of n = get_or phases n Phase.End
 
-abbrev pub answer_number : Answer → ℕ
-answer_number Answer.Ok = 0
-answer_number Answer.Sent = 16
-answer_number Answer.Retry = 18
-answer_number Answer.Done = 19
-answer_number Answer.Fail = 20
-answer_number Answer.End = 21
-answer_number (Answer.Refused k) = number_of k
+abbrev pub answer_number : Result Answer Refusal → ℕ
+answer_number (Ok Answer.Ok) = 0
+answer_number (Ok Answer.Sent) = 16
+answer_number (Ok Answer.Retry) = 18
+answer_number (Ok Answer.Done) = 19
+answer_number (Ok Answer.Fail) = 20
+answer_number (Ok Answer.End) = 21
+answer_number (Err k) = number_of k

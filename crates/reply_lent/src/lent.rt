@@ -1,68 +1,66 @@
 // Numbers to a reply and back.
 ghost use Rattle.std.specs.Prelude.{◌≡◌};
-ghost use Rattle.reply_lent.specs.Lent.{formed, resends_of, state_of, shown, is_refusal, seen};
+ghost use Rattle.reply_lent.specs.Lent.{formed, resends_of, state_of, shown, seen};
 
 use crate::{State, Step, numbers};
 use reply::{Reply, Stepped};
 
-// Whether the numbers name a reply, one that keeps its rules or not.
-fn formed(s: State) -> bool
-    ensures { result ≡ formed s }
-{
-    (s.phase < 6) & ((s.zero2 == 0) & (s.zero1 == 0))
-}
+impl State {
+    // The members that are zero, and the number that no START takes, are each machine's own.
+    // Whether the numbers name a reply, one that keeps its rules or not.
+    fn formed(self) -> bool
+        ensures { result ≡ formed self }
+    {
+        self.phase < 6 && self.zero2 == 0 && self.zero1 == 0
+    }
 
-// R, or where the numbers name no reply one that every call refuses.
-fn resends_of(s: State) -> u32
-    ensures { result ≡ resends_of s }
-{
-    if formed(s) { s.resends } else { 256 }
+    // R, or where the numbers name no reply one that every call refuses.
+    fn resends_of(self) -> u32
+        ensures { result ≡ resends_of self }
+    {
+        if self.formed() { self.resends } else { 256 }
+    }
+
+    // What C sees of a call that was lent these numbers: a refusal gives them back to the last member. write_lent and transfer_lent do the same with
+    // structs of their own, which C names: one function for all would take both types and the numbers of the answers as parameters.
+    pub(crate) fn seen(self, r: Stepped) -> Step
+        ensures { result ≡ seen self r }
+    {
+        let state = match r.answer {
+            Ok(_) => State::from(r.state),
+            Err(_) => self,
+        };
+        Step {
+            state,
+            answer: numbers::answer_number(r.answer),
+        }
+    }
 }
 
 // The reply that the numbers say.
-pub(crate) fn state_of(s: State) -> Reply
-    ensures { result ≡ state_of s }
-{
-    let resends = resends_of(s);
-    let phase = numbers::phase_of(s.phase);
-    Reply {
-        resends,
-        used: s.used,
-        phase,
+impl From<State> for Reply {
+    ghost from_gives = { λ s t. t ≡ state_of s };
+
+    fn from(s: State) -> Reply {
+        Reply {
+            resends: s.resends_of(),
+            used: s.used,
+            phase: numbers::phase_of(s.phase),
+        }
     }
 }
 
 // A reply as numbers.
-fn shown(t: Reply) -> State
-    ensures { result ≡ shown t }
-{
-    let p = t.phase;
-    let phase = numbers::phase_number(p);
-    State {
-        resends: t.resends,
-        used: t.used,
-        zero2: 0,
-        zero1: 0,
-        phase,
-    }
-}
+impl From<Reply> for State {
+    ghost from_gives = { λ t s. s ≡ shown t };
 
-fn is_refusal(n: u8) -> bool
-    ensures { result ≡ is_refusal n }
-{
-    (0 < n) & (n < 11)
-}
-
-// What C sees of a call that was lent s: a refusal gives it back to the last member.
-pub(crate) fn seen(s: State, r: Stepped) -> Step
-    ensures { result ≡ seen s r }
-{
-    let a = r.answer;
-    let answer = numbers::answer_number(a);
-    if is_refusal(answer) {
-        return Step { state: s, answer };
+    fn from(t: Reply) -> State {
+        State {
+            resends: t.resends,
+            used: t.used,
+            zero2: 0,
+            zero1: 0,
+            phase: numbers::phase_number(t.phase),
+        }
     }
-    let t = r.state;
-    let state = shown(t);
-    Step { state, answer }
 }

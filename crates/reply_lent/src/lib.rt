@@ -4,7 +4,8 @@
 ghost use Rattle.std.specs.Prelude.{◌≡◌};
 ghost use Rattle.reply_lent.specs.Face.{start, ack, nak, timeout, lost, nexus, cancel, face_of, Responded};
 
-use take::respond;
+use reply::Reply;
+use take::{Command, respond};
 
 mod lent;
 pub mod numbers;
@@ -36,51 +37,46 @@ impl State {
     pub fn start(self, resends: u32) -> Step
         ensures { result ≡ face_of (start resends) self }
     {
-        let t = lent::state_of(self);
-        lent::seen(self, t.start(resends))
+        self.seen(Reply::from(self).start(resends))
     }
 
     pub fn ack(self) -> Step
         ensures { result ≡ face_of ack self }
     {
-        let t = lent::state_of(self);
-        lent::seen(self, t.ack())
+        self.seen(Reply::from(self).ack())
     }
 
     pub fn nak(self) -> Step
         ensures { result ≡ face_of nak self }
     {
-        let t = lent::state_of(self);
-        lent::seen(self, t.nak())
+        self.seen(Reply::from(self).nak())
     }
 
     pub fn timeout(self) -> Step
         ensures { result ≡ face_of timeout self }
     {
-        let t = lent::state_of(self);
-        lent::seen(self, t.timeout())
+        self.seen(Reply::from(self).timeout())
     }
 
     pub fn lost(self) -> Step
         ensures { result ≡ face_of lost self }
     {
-        let t = lent::state_of(self);
-        lent::seen(self, t.lost())
+        self.seen(Reply::from(self).lost())
     }
 
     pub fn nexus(self) -> Step
         ensures { result ≡ face_of nexus self }
     {
-        let t = lent::state_of(self);
-        lent::seen(self, t.nexus())
+        self.seen(Reply::from(self).nexus())
     }
 
     pub fn cancel(self) -> Step
         ensures { result ≡ face_of cancel self }
     {
-        let t = lent::state_of(self);
-        lent::seen(self, t.cancel())
+        self.seen(Reply::from(self).cancel())
     }
+
+    // Addresses and tag are C's own parameters; they become a Command.
     // RESPONSE, its frame with the data in body to the front of out; the bytes past it stay, and on a refusal all of them.
     pub fn respond(
         self,
@@ -94,10 +90,12 @@ impl State {
     ) -> Step
         ensures { Responded self destination source tag present status body.now out.old result out.new }
     {
-        let t = lent::state_of(self);
-        lent::seen(
-            self,
-            respond::respond(t, destination, source, tag, present, status, body, out),
-        )
+        let command = Command {
+            destination,
+            source,
+            tag,
+        };
+        let reply = Reply::from(self);
+        self.seen(respond::respond(reply, command, present, status, body, out))
     }
 }

@@ -1,21 +1,15 @@
-// The numbers of a reply's phases and of what its calls answer.
+// The numbers of a reply's phases and of what its calls answer. They are functions and no impl of From, which this crate can't write for another's enum.
 ghost use Rattle.std.specs.Prelude.{◌≡◌};
 ghost use Rattle.reply_lent.specs.Numbers.{phase_number, phase_of, answer_number};
 
+use refusals::Refusal;
 use reply::{Answer, Phase};
 
-// 0 before START to 5 for ended.
+// 0 before START to 5 for ended, in the order of the enum.
 pub fn phase_number(p: Phase) -> u8
     ensures { result ≡ phase_number p }
 {
-    match p {
-        Phase::New => 0,
-        Phase::Ask => 1,
-        Phase::Wait => 2,
-        Phase::Done => 3,
-        Phase::Fail => 4,
-        Phase::End => 5,
-    }
+    p as u8
 }
 
 // From the last on it is the last.
@@ -33,16 +27,16 @@ pub fn phase_of(n: u8) -> Phase
 }
 
 // 0, a refusal's own number, or from 16 on what happened.
-pub fn answer_number(a: Answer) -> u8
+pub fn answer_number(a: Result<Answer, Refusal>) -> u8
     ensures { result ≡ answer_number a }
 {
     match a {
-        Answer::Ok => 0,
-        Answer::Sent => 16,
-        Answer::Retry => 18,
-        Answer::Done => 19,
-        Answer::Fail => 20,
-        Answer::End => 21,
-        Answer::Refused(k) => refusals::number(k),
+        Ok(Answer::Ok) => 0,
+        Ok(Answer::Sent) => 16,
+        Ok(Answer::Retry) => 18,
+        Ok(Answer::Done) => 19,
+        Ok(Answer::Fail) => 20,
+        Ok(Answer::End) => 21,
+        Err(k) => u8::from(k),
     }
 }

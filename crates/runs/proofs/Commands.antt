@@ -1,4 +1,5 @@
 -- A line's fields tell what it says: one word alone, or START and four numbers. Assumes nothing.
+use Rattle.std.specs.Prelude.{None, Option}
 use Prim.Native.Nat.{ℕ, suc, ◌≤◌, ◌<◌}
 use mathlib.Core.Bool.{Bool, true, false, cond, ◌&&◌}
 use mathlib.Core.List.{List, [], ◌∷◌}
@@ -18,10 +19,9 @@ use Rattle.runs.specs.Rows.{row, longest_row}
 use Rattle.runs.specs.Feed.{enough, Takes}
 use Rattle.runs.specs.declared.Taken.{Taken}
 use Rattle.runs.specs.declared.Command.{Command}
-use Rattle.runs.specs.declared.Command.TheVariants.{Bad}
 
 -- a line that is too long is bad, and so is its front
-pub long : (s : List ℕ) → longest < length s → read_line s ≡ Bad
+pub long : (s : List ℕ) → longest < length s → read_line s ≡ None
 unfolding read_line command_of
 long s h = rw (too_long longest s h)
 
@@ -56,7 +56,7 @@ five (w ∷ b ∷ n ∷ m ∷ []) h = absurd (omega arith)
 five (w ∷ b ∷ n ∷ m ∷ r ∷ []) h = refl
 five (w ∷ b ∷ n ∷ m ∷ r ∷ x ∷ fs) h = absurd (omega arith)
 
-neither : (fs : List (List ℕ)) → (length fs ≡ 1 → ⊥) → eqb (length fs) 5 && same (get_or fs 0 []) START ≡ false → command_of fs ≡ Bad
+neither : (fs : List (List ℕ)) → (length fs ≡ 1 → ⊥) → eqb (length fs) 5 && same (get_or fs 0 []) START ≡ false → command_of fs ≡ None
 unfolding command_of
 neither [] h k = refl
 neither (w ∷ []) h k = absurd (h refl)
@@ -83,7 +83,7 @@ module _ (s : List ℕ) (n : ℕ) (e : n ≡ length (fields_within longest s)) w
       let all = short ∙ five (fields_of s) (ap length (sym short) ∙ sym e ∙ many) in
       ap command_of all ∙ rw (and_right (eqb n 5) _ h)
 
-  pub bad_line : (n ≡ 1 → ⊥) → eqb n 5 && same (field_at s 0) START ≡ false → read_line s ≡ Bad
+  pub bad_line : (n ≡ 1 → ⊥) → eqb n 5 && same (field_at s 0) START ≡ false → read_line s ≡ None
   unfolding read_line
   bad_line h k = neither (fields_within longest s) (λ l. h (e ∙ l)) (by (eqb (length (fields_within longest s)) 5) refl)
     where
@@ -97,7 +97,7 @@ module _ (s : List ℕ) (n : ℕ) (e : n ≡ length (fields_within longest s)) w
 pub taken_alike : {line : ℕ} {transfer : Transfer} {s s' out : List ℕ} {at : ℕ} {r : Taken} {out' : List ℕ} → read_line s ≡ read_line s' → Takes line transfer s out at r out' → Takes line transfer s' out at r out'
 taken_alike {line} {transfer} {s} {s'} {out} {at} {r} {out'} e x =
     record {
-      state = x.state ∙ ap (λ (c : Command). (obeyed c transfer).state) e;
-      bytes = subst (λ (c : Command). Put out at (row line (obeyed c transfer)) r.place out') e x.bytes;
-      short = subst (λ (c : Command). length (row line (obeyed c transfer)) ≤ longest_row) e x.short;
+      state = x.state ∙ ap (λ (c : Option Command). (obeyed c transfer).state) e;
+      bytes = subst (λ (c : Option Command). Put out at (row line (obeyed c transfer)) r.place out') e x.bytes;
+      short = subst (λ (c : Option Command). length (row line (obeyed c transfer)) ≤ longest_row) e x.short;
     }

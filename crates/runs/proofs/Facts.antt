@@ -1,4 +1,5 @@
 -- What document 01 says of readrun's lines, typed as bytes: the definitions compute it. Assumes nothing.
+use Rattle.std.specs.Prelude.{Ok, None, Option}
 use mathlib.Core.Path.{◌≡◌, refl}
 use mathlib.Core.List.{map}
 use lib.ListN.{replicate}
@@ -14,7 +15,6 @@ use Rattle.runs.specs.Rows.{word_of, row_of}
 use Rattle.runs.specs.Output.{output_of}
 use Rattle.runs.specs.Typed.{typed_lines, typed_commands, typed_calls, other_lines, typed_words, typed_answers, typed_row, typed_input, typed_output}
 use Rattle.runs.specs.declared.Command.{Command}
-use Rattle.runs.specs.declared.Command.TheVariants.{Bad}
 
 -- 01 TEXT.1 01 TEXT.4
 pub commands : map read_line typed_lines ≡ typed_commands
@@ -22,16 +22,16 @@ unfolding read_line command_of read_number
 commands = refl
 
 -- what a command does is what its call does
-pub calls : (s : Transfer) → map (λ (c : Command). obeyed c s) typed_commands ≡ map (λ (c : Call). step_of limit c s) typed_calls
+pub calls : (s : Transfer) → map (λ (c : Option Command). obeyed c s) typed_commands ≡ map (λ (c : Call). step_of limit c s) typed_calls
 unfolding obeyed
 calls s = refl
 
 -- 01 TEXT.4 01 TEXT.5
-pub others : map read_line other_lines ≡ replicate 13 Bad
+pub others : map read_line other_lines ≡ replicate 13 None
 unfolding read_line command_of read_number
 others = refl
 
-pub bad : (s : Transfer) → obeyed Bad s ≡ refused s Refusal.Unlisted
+pub bad : (s : Transfer) → obeyed None s ≡ refused s Refusal.Unlisted
 unfolding obeyed
 bad s = refl
 
@@ -40,7 +40,7 @@ pub words : map word_of typed_answers ≡ typed_words
 unfolding decimal
 words = refl
 
-pub columns : row_of 7 Answer.Done 11 12 13 14 ≡ typed_row
+pub columns : row_of 7 (Ok Answer.Done) 11 12 13 14 ≡ typed_row
 unfolding row_of decimal
 columns = refl
 

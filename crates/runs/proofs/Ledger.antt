@@ -1,5 +1,6 @@
 -- A ledger of the lines has what the transfer did: each line leaves the transfer and the ledger in agreement, so that demand 3 of the one is
 -- demand 3 of the other. Assumes nothing.
+use Rattle.std.specs.Prelude.{Ok, None, Option, Some}
 use Prim.Native.Nat.{ℕ, ◌+◌, ◌-◌}
 use mathlib.Core.Bool.{true}
 use mathlib.Core.List.{List, [], ◌∷◌, ◌++◌, map}
@@ -34,13 +35,13 @@ use Rattle.runs.specs.Ledger.{Ledger, blank_ledger, by_start, adds, asked, goes_
 use Rattle.runs.proofs.Shown.{one_reading}
 use Rattle.runs.proofs.Words.{Has, said_word, nak_drains}
 use Rattle.runs.specs.declared.Command.{Command}
-use Rattle.runs.specs.declared.Command.TheVariants.{Start, Frame, Ack, Nak, Timeout, Lost, Nexus, Cancel, Bad}
+use Rattle.runs.specs.declared.Command.TheVariants.{Start, Frame, Ack, Nak, Timeout, Lost, Nexus, Cancel}
 
 -- ---- the turns are the input's commands, and their bytes are the output
 
 saying : (k : ℕ) (s : Transfer) (ls : List (List ℕ)) → map (λ (t : Turn). t.said) (turns k s ls) ≡ map read_line ls
 saying k s [] = refl
-saying k s (l ∷ ls) = ap (λ (cs : List Command). read_line l ∷ cs) (saying (next_line k) (obeyed (read_line l) s).state ls)
+saying k s (l ∷ ls) = ap (λ (cs : List (Option Command)). read_line l ∷ cs) (saying (next_line k) (obeyed (read_line l) s).state ls)
 
 shown : (k : ℕ) (s : Transfer) (ls : List (List ℕ)) → shown_bytes (turns k s ls) ≡ rows k s ls
 shown k s [] = refl
@@ -133,13 +134,13 @@ holds {s} {w} a =
     }
 
 -- a line answered by st, and what it leaves
-pub record Step (k : ℕ) (c : Command) (st : Stepped) (w : Ledger) : Type 0 where
+pub record Step (k : ℕ) (c : Option Command) (st : Stepped) (w : Ledger) : Type 0 where
   pub agree : Agree st.state (enter w (turn_of k c st))
   pub leads : Leads w (turn_of k c st)
 
 module _ (k : ℕ) (s : Transfer) (w : Ledger) (a : Agree s w) where
   -- of a command that is a call, where the line tells what the history has, and asks for what the transfer has
-  calls_agree : (c : Command) (call : Call) →
+  calls_agree : (c : Option Command) (call : Call) →
       let st = step_of limit call s in
       let t = turn_of k c st in
       Has (words_for c) st → entries_of limit call s ≡ adds w t → Follows s (asked (λ b n. b) w.offset t) (asked (λ b n. n) w.count t) st → Step k c st w
@@ -162,46 +163,46 @@ module _ (k : ℕ) (s : Transfer) (w : Ledger) (a : Agree s w) where
       }
 
   -- a line that asks for nothing, whatever its word
-  stays_agree : (c : Command) (call : Call) → ((which : ℕ → ℕ → ℕ) (x : ℕ) → by_start which x c ≡ x) → let st = step_of limit call s in Has (words_for c) st → entries_of limit call s ≡ adds w (turn_of k c st) → Stays limit s st → Step k c st w
+  stays_agree : (c : Option Command) (call : Call) → ((which : ℕ → ℕ → ℕ) (x : ℕ) → by_start which x c ≡ x) → let st = step_of limit call s in Has (words_for c) st → entries_of limit call s ≡ adds w (turn_of k c st) → Stays limit s st → Step k c st w
   stays_agree c call quiet word tells stays = calls_agree c call word tells (record { offset = none (λ b n. b) w.offset ∙ a.offset ∙ stays.offset; count = none (λ b n. n) w.count ∙ a.count ∙ stays.count; going = stays.going })
     where
       none : (which : ℕ → ℕ → ℕ) (x : ℕ) → asked which x (turn_of k c (step_of limit call s)) ≡ x
       none which x = by_test (λ (y : ℕ). y ≡ x) (is_refused (step_of limit call s).answer) (λ t. refl) (λ t. quiet which x)
 
   -- a frame lies between the read offsets
-  frame_told : entries_of limit frame s ≡ adds w (turn_of k Frame (step_of limit frame s))
+  frame_told : entries_of limit frame s ≡ adds w (turn_of k (Some Frame) (step_of limit frame s))
   unfolding step_of frame_step
   frame_told =
-      by_causes (λ (st : Stepped). entries frame (next_frame s) st.answer ≡ adds w (turn_of k Frame st)) (refused s) (λ r. refl) (frame_causes limit s) (framed (frame_length s) s)
+      by_causes (λ (st : Stepped). entries frame (next_frame s) st.answer ≡ adds w (turn_of k (Some Frame) st)) (refused s) (λ r. refl) (frame_causes limit s) (framed (frame_length s) s)
       (λ off.
       let len : frame_length s ≡ s.read + frame_length s - w.read = omega (arith, a.read) in
       λ i. sent (record { at = sym a.read i; len = len i }) ∷ [])
 
-  start_asks : (b n m r : ℕ) → let st = step_of limit (start b n m r) s in let t = turn_of k (Start b n m r) st in Follows s (asked (λ b n. b) w.offset t) (asked (λ b n. n) w.count t) st
+  start_asks : (b n m r : ℕ) → let st = step_of limit (start b n m r) s in let t = turn_of k (Some (Start b n m r)) st in Follows s (asked (λ b n. b) w.offset t) (asked (λ b n. n) w.count t) st
   unfolding step_of start_step
   start_asks b n m r =
-      by_causes (λ (st : Stepped). let t = turn_of k (Start b n m r) st in Follows s (asked (λ b n. b) w.offset t) (asked (λ b n. n) w.count t) st) (refused s)
-      (λ j. record { offset = a.offset; count = a.count; going = refl }) (start_causes limit b n m r s) (say Answer.Ok (started b n m r))
+      by_causes (λ (st : Stepped). let t = turn_of k (Some (Start b n m r)) st in Follows s (asked (λ b n. b) w.offset t) (asked (λ b n. n) w.count t) st) (refused s)
+      (λ j. record { offset = a.offset; count = a.count; going = refl }) (start_causes limit b n m r s) (say (Ok Answer.Ok) (started b n m r))
       (λ off. record { offset = refl; count = refl; going = refl })
 
-  bad_step : Step k Bad (refused s Refusal.Unlisted) w
+  bad_step : Step k None (refused s Refusal.Unlisted) w
   bad_step =
       record {
         agree = record { offset = a.offset; count = a.count; going = a.going; read = refl; balance = refl; unanswered = refl; sound = a.sound };
         leads = record { resend = λ f e none. absurd (apart (cc)); delivers = λ e. absurd (apart (cc)); says = λ e. impossible (sym e); drains = λ e. impossible (sym e) };
       }
 
-  pub step : (c : Command) → Step k c (obeyed c s) w
+  pub step : (c : Option Command) → Step k c (obeyed c s) w
   unfolding obeyed step_of
-  step (Start b n m r) = calls_agree (Start b n m r) (start b n m r) (said_word s (Start b n m r)) refl (start_asks b n m r)
-  step Frame = stays_agree Frame frame (λ which x. refl) (said_word s Frame) frame_told (stays_frame limit s)
-  step Ack = stays_agree Ack ack (λ which x. refl) (said_word s Ack) refl (stays_ack limit s)
-  step Nak = stays_agree Nak nak (λ which x. refl) (said_word s Nak) refl (stays_nak limit s)
-  step Timeout = stays_agree Timeout timeout (λ which x. refl) (said_word s Timeout) refl (stays_drop limit s)
-  step Lost = stays_agree Lost lost (λ which x. refl) (said_word s Lost) refl (stays_drop limit s)
-  step Nexus = stays_agree Nexus nexus (λ which x. refl) (said_word s Nexus) refl (stays_end limit s)
-  step Cancel = stays_agree Cancel cancel (λ which x. refl) (said_word s Cancel) refl (stays_end limit s)
-  step Bad = bad_step
+  step (Some (Start b n m r)) = calls_agree (Some (Start b n m r)) (start b n m r) (said_word s (Some (Start b n m r))) refl (start_asks b n m r)
+  step (Some Frame) = stays_agree (Some Frame) frame (λ which x. refl) (said_word s (Some Frame)) frame_told (stays_frame limit s)
+  step (Some Ack) = stays_agree (Some Ack) ack (λ which x. refl) (said_word s (Some Ack)) refl (stays_ack limit s)
+  step (Some Nak) = stays_agree (Some Nak) nak (λ which x. refl) (said_word s (Some Nak)) refl (stays_nak limit s)
+  step (Some Timeout) = stays_agree (Some Timeout) timeout (λ which x. refl) (said_word s (Some Timeout)) refl (stays_drop limit s)
+  step (Some Lost) = stays_agree (Some Lost) lost (λ which x. refl) (said_word s (Some Lost)) refl (stays_drop limit s)
+  step (Some Nexus) = stays_agree (Some Nexus) nexus (λ which x. refl) (said_word s (Some Nexus)) refl (stays_end limit s)
+  step (Some Cancel) = stays_agree (Some Cancel) cancel (λ which x. refl) (said_word s (Some Cancel)) refl (stays_end limit s)
+  step None = bad_step
 
 -- ---- any place in a run
 

@@ -3,12 +3,12 @@
 use Prim.Native.Nat.{ℕ, suc, ◌+◌, ◌-◌, ◌≤◌, ◌<◌}
 use mathlib.Core.Bool.{Bool, true, false, cond, ◌&&◌}
 use mathlib.Core.List.{List, [], ◌∷◌, ◌++◌, append-nil, append_assoc}
-use mathlib.Core.Path.{◌≡◌, refl, sym, ap, ◌∙◌, subst}
+use mathlib.Core.Path.{◌≡◌, refl, sym, ap, ◌∙◌}
 use native.Mathlib.Omega.{arith}
 use borrow.Author.Tests.{eqb-true, ltb-true, ne_eqb, le-ltb}
 use lib.Dec.{eqb, ltb}
 use lib.ListN.{length, take, drop, replicate, length-take, length-drop, length-append, take-append-drop}
-use lib.Seq.{take-append_seam, length-take-le, drop-drop}
+use lib.Seq.{take-append_seam, length-take-le}
 use Rattle.laws.proofs.Bools.{and_right, and_false, by_test}
 use Rattle.laws.proofs.Lists.{lent_tail}
 use Rattle.lines.specs.Parts.{lf, lines_of}
@@ -108,42 +108,42 @@ module _ {run : Run} {block out : List ℕ} {r : Fed} {out' : List ℕ} (f : Fee
       let full = stops_full (length out) (carry_of run) block (omega (arith, taken)) in
       omega (arith, ap (λ (x : Fed). x.wrote) f.answer)
 
--- a turn of a loop that feeds a whole input, which a run has taken up to a place
-module _ (run : Run) (input out : List ℕ) (from : ℕ) (r : Fed) (out' : List ℕ) (h : from ≤ length input) (f : Feeds run (take (length input - from) (drop from input)) out r out') where
+-- a turn of a loop that feeds what is left of an input
+module _ (run : Run) (block out : List ℕ) (r : Fed) (out' : List ℕ) (f : Feeds run block out r out') where
   abbrev n : ℕ
-  n = takes (length out) (carry_of run) (drop from input)
+  n = takes (length out) (carry_of run) block
 
-  rest : Feeds run (drop from input) out r out'
-  rest = subst (λ (s : List ℕ). Feeds run s out r out') (lent_tail from input) f
+  abbrev front : List ℕ
+  front = take n block
 
-  pub turn_within : from + r.used ≤ length input
-  turn_within = omega (arith, feed_within rest, length-drop from input)
+  carries : carry_of r.run ≡ after (carry_of run) front
+  carries = ap (λ (x : Fed). carry_of x.run) f.answer ∙ carried (after (carry_of run) front)
 
-  pub turn_moves : longest_row ≤ length out → from < length input → 0 < r.used
-  turn_moves l k = omega (arith, taken rest, moves (length out) (carry_of run) (drop from input) l (omega (arith, length-drop from input)))
+  -- what it leaves of the input
+  left : drop n block ≡ take (length block - r.used) (drop r.used block)
+  left = ap (λ (k : ℕ). drop k block) (sym (taken f)) ∙ sym (lent_tail r.used block)
 
-  pub turn_carries : after (carry_of run) (drop from input) ≡ after (carry_of r.run) (drop (from + r.used) input)
+  pub turn_moves : longest_row ≤ length out → 0 < length block → length (take (length block - r.used) (drop r.used block)) < length block
+  turn_moves l k = omega (arith, taken f, moves (length out) (carry_of run) block l k, ap length (lent_tail r.used block), length-drop r.used block)
+
+  pub turn_carries : after (carry_of run) block ≡ after (carry_of r.run) (take (length block - r.used) (drop r.used block))
   turn_carries =
-      ap (after (carry_of run)) (sym (take-append-drop n (drop from input)))
-      ∙ after_append (carry_of run) (take n (drop from input)) (drop n (drop from input))
-      ∙ ap (λ (c : Carry). after c (drop n (drop from input))) (sym (ap (λ (x : Fed). carry_of x.run) rest.answer ∙ carried (after (carry_of run) (take n (drop from input)))))
-      ∙ ap (after (carry_of r.run)) (drop-drop n from input ∙ ap (λ (k : ℕ). drop (from + k) input) (sym (taken rest)))
+      ap (after (carry_of run)) (sym (take-append-drop n block))
+      ∙ after_append (carry_of run) front (drop n block)
+      ∙ (λ i. after (sym carries i) (left i))
 
-  pub turn_says : said (carry_of run) (drop from input) ≡ take r.wrote out' ++ said (carry_of r.run) (drop (from + r.used) input)
+  pub turn_says : said (carry_of run) block ≡ take r.wrote out' ++ said (carry_of r.run) (take (length block - r.used) (drop r.used block))
   turn_says =
-      let front = take n (drop from input) in
-      let wrote : take r.wrote out' ≡ said (carry_of run) front = (λ i. take (rest.answer i).wrote (rest.bytes i)) ∙ take-append_seam (said (carry_of run) front) (drop (length (said (carry_of run) front)) out) in
-      let carries : carry_of r.run ≡ after (carry_of run) front = ap (λ (x : Fed). carry_of x.run) rest.answer ∙ carried (after (carry_of run) front) in
-      ap (said (carry_of run)) (sym (take-append-drop n (drop from input)))
-      ∙ said_append (carry_of run) front (drop n (drop from input))
-      ∙ (λ i. sym wrote i ++ said (sym carries i) (drop n (drop from input)))
-      ∙ ap (λ (s : List ℕ). take r.wrote out' ++ said (carry_of r.run) s) (drop-drop n from input ∙ ap (λ (k : ℕ). drop (from + k) input) (sym (taken rest)))
+      let wrote : take r.wrote out' ≡ said (carry_of run) front = (λ i. take (f.answer i).wrote (f.bytes i)) ∙ take-append_seam (said (carry_of run) front) (drop (length (said (carry_of run) front)) out) in
+      ap (said (carry_of run)) (sym (take-append-drop n block))
+      ∙ said_append (carry_of run) front (drop n block)
+      ∙ (λ i. sym wrote i ++ said (sym carries i) (left i))
 
   -- a run that was fed is one of what it carries
   pub turn_kept : r.run ≡ run_of (carry_of r.run)
   turn_kept =
-      let is : r.run ≡ run_of (after (carry_of run) (take n (drop from input))) = ap (λ (x : Fed). x.run) rest.answer in
-      is ∙ sym (ap (λ (x : Run). run_of (carry_of x)) is ∙ ap run_of (carried (after (carry_of run) (take n (drop from input)))))
+      let is : r.run ≡ run_of (after (carry_of run) front) = ap (λ (x : Fed). x.run) f.answer in
+      is ∙ sym (ap (λ (x : Run). run_of (carry_of x)) is ∙ ap run_of (carried (after (carry_of run) front)))
 
 -- with room for a row the last line is taken
 pub all_closed : (room : ℕ) (c : Carry) (len : ℕ) → longest_row ≤ room → take (takes room c (closing len)) (closing len) ≡ closing len

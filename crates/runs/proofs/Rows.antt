@@ -1,4 +1,6 @@
 -- A row has at most 71 bytes, since each of its parts is short. Assumes nothing.
+use Rattle.refusals.specs.declared.Refusal.{Refusal}
+use Rattle.std.specs.Prelude.{Err, Ok, Result}
 use Prim.Native.Nat.{ℕ, ◌≤◌, ◌<◌}
 use native.Mathlib.Omega.{arith}
 use lib.ListN.{length, length-append}
@@ -8,17 +10,17 @@ use Rattle.refusals.proofs.Numbers.{range}
 use Rattle.transfer.specs.declared.Answer.{Answer}
 use Rattle.runs.specs.Rows.{word_of, row_of, longest_row}
 
-word_short : (a : Answer) → length (word_of a) ≤ 5
-word_short Answer.Ok = omega arith
-word_short Answer.Sent = omega arith
-word_short Answer.Drain = omega arith
-word_short Answer.Retry = omega arith
-word_short Answer.Done = omega arith
-word_short Answer.Fail = omega arith
-word_short Answer.End = omega arith
-word_short (Answer.Refused k) = omega (arith, decimal_short 1 (number_of k) (omega (arith, range k)))
+word_short : (a : Result Answer Refusal) → length (word_of a) ≤ 5
+word_short (Ok Answer.Ok) = omega arith
+word_short (Ok Answer.Sent) = omega arith
+word_short (Ok Answer.Drain) = omega arith
+word_short (Ok Answer.Retry) = omega arith
+word_short (Ok Answer.Done) = omega arith
+word_short (Ok Answer.Fail) = omega arith
+word_short (Ok Answer.End) = omega arith
+word_short (Err k) = omega (arith, decimal_short 1 (number_of k) (omega (arith, range k)))
 
-pub row_short : (line : ℕ) (a : Answer) (read balance unanswered used : ℕ) → line < 18446744073709551616 → read < 4294967296 → balance < 4294967296 → unanswered < 4294967296 → used < 4294967296 → length (row_of line a read balance unanswered used) ≤ longest_row
+pub row_short : (line : ℕ) (a : Result Answer Refusal) (read balance unanswered used : ℕ) → line < 18446744073709551616 → read < 4294967296 → balance < 4294967296 → unanswered < 4294967296 → used < 4294967296 → length (row_of line a read balance unanswered used) ≤ longest_row
 unfolding row_of
 row_short line a read balance unanswered used h₀ h₁ h₂ h₃ h₄ =
     let l₀ = decimal_short 19 line (omega (arith, h₀)) in

@@ -1,5 +1,6 @@
 -- Lines of output can be read back: a column ends at the first tab, the last at the LF, and no two numbers or words are written alike. So
 -- what is read and printed leaves no choice of lines. Assumes nothing.
+use Rattle.std.specs.Prelude.{Err, Ok, Result}
 use Prim.Native.Nat.{ℕ}
 use mathlib.Core.Bool.{true, cond}
 use mathlib.Core.List.{List, [], ◌∷◌, ◌++◌, append_assoc, map}
@@ -32,15 +33,15 @@ cut sep (a ∷ p) (b ∷ q) x y f g e =
     let rest = cut sep p q x y (free_rest sep a p f) (free_rest sep b q g) (cc) in
     (λ i. first i ∷ rest.0 i, rest.1)
 
-word_free : (a : Answer) → free tab (word_of a) ≡ true
-word_free Answer.Ok = refl
-word_free Answer.Sent = refl
-word_free Answer.Drain = refl
-word_free Answer.Retry = refl
-word_free Answer.Done = refl
-word_free Answer.Fail = refl
-word_free Answer.End = refl
-word_free (Answer.Refused k) = decimal_free tab (omega arith) (number_of k)
+word_free : (a : Result Answer Refusal) → free tab (word_of a) ≡ true
+word_free (Ok Answer.Ok) = refl
+word_free (Ok Answer.Sent) = refl
+word_free (Ok Answer.Drain) = refl
+word_free (Ok Answer.Retry) = refl
+word_free (Ok Answer.Done) = refl
+word_free (Ok Answer.Fail) = refl
+word_free (Ok Answer.End) = refl
+word_free (Err k) = decimal_free tab (omega arith) (number_of k)
 
 -- ---- no two are written alike
 
@@ -48,32 +49,32 @@ one_number : (m n : ℕ) → decimal m ≡ decimal n → m ≡ n
 one_number m n e = sym (decimal_value m) ∙ ap (value_from 0) e ∙ decimal_value n
 
 -- the answer of a word
-abbrev answer_named : List (List ℕ) → List Answer → List ℕ → Answer
-answer_named [] answers w = Answer.Ok
-answer_named (v ∷ vs) [] w = Answer.Ok
+abbrev answer_named : List (List ℕ) → List (Result Answer Refusal) → List ℕ → Result Answer Refusal
+answer_named [] answers w = Ok Answer.Ok
+answer_named (v ∷ vs) [] w = Ok Answer.Ok
 answer_named (v ∷ vs) (a ∷ answers) w = cond (same w v) a (answer_named vs answers w)
 
-back : (a : Answer) → answer_named typed_words typed_answers (word_of a) ≡ a
+back : (a : Result Answer Refusal) → answer_named typed_words typed_answers (word_of a) ≡ a
 unfolding decimal
-back Answer.Ok = refl
-back Answer.Sent = refl
-back Answer.Drain = refl
-back Answer.Retry = refl
-back Answer.Done = refl
-back Answer.Fail = refl
-back Answer.End = refl
-back (Answer.Refused Refusal.Length) = refl
-back (Answer.Refused Refusal.Unlisted) = refl
-back (Answer.Refused Refusal.Rules) = refl
-back (Answer.Refused Refusal.Phy) = refl
-back (Answer.Refused Refusal.Past) = refl
-back (Answer.Refused Refusal.Unfit) = refl
-back (Answer.Refused Refusal.Due) = refl
-back (Answer.Refused Refusal.Sent) = refl
-back (Answer.Refused Refusal.Present) = refl
-back (Answer.Refused Refusal.Full) = refl
+back (Ok Answer.Ok) = refl
+back (Ok Answer.Sent) = refl
+back (Ok Answer.Drain) = refl
+back (Ok Answer.Retry) = refl
+back (Ok Answer.Done) = refl
+back (Ok Answer.Fail) = refl
+back (Ok Answer.End) = refl
+back (Err Refusal.Length) = refl
+back (Err Refusal.Unlisted) = refl
+back (Err Refusal.Rules) = refl
+back (Err Refusal.Phy) = refl
+back (Err Refusal.Past) = refl
+back (Err Refusal.Unfit) = refl
+back (Err Refusal.Due) = refl
+back (Err Refusal.Sent) = refl
+back (Err Refusal.Present) = refl
+back (Err Refusal.Full) = refl
 
-one_word : (a b : Answer) → word_of a ≡ word_of b → a ≡ b
+one_word : (a b : Result Answer Refusal) → word_of a ≡ word_of b → a ≡ b
 one_word a b e = sym (back a) ∙ ap (answer_named typed_words typed_answers) e ∙ back b
 
 -- ---- a row, and what stands behind it

@@ -1,12 +1,13 @@
 -- Document 01, 'Read transfer': what one who sees the lines of a run alone can keep of them, as a ledger: the request as it was typed, the columns of the
 -- last line, and the history of frames and answers. A frame lies between the read offsets of two lines. No state is read here.
 -- Assumes nothing.
-use Rattle.std.specs.Prelude.{ℕ, ◌+◌, ◌-◌, ◌≤◌, ◌<◌, Bool, true, false, cond, List, [], ◌∷◌, ◌++◌, ◌⊎◌, ◌≡◌, length}
+use Rattle.refusals.specs.declared.Refusal.{Refusal}
+use Rattle.std.specs.Prelude.{ℕ, ◌+◌, ◌-◌, ◌≤◌, ◌<◌, Bool, true, false, cond, List, [], ◌∷◌, ◌++◌, ◌⊎◌, ◌≡◌, length, Err, Ok, Result, None, Option, Some}
 use Rattle.transfer.specs.History.{Frame as Sent, Entry, started, sent, acked, nacked, timed_out, was_lost, ended, is_refused, view, Covered}
 use Rattle.transfer.specs.declared.Answer.{Answer}
 use Rattle.runs.specs.Turns.{Turn}
 use Rattle.runs.specs.declared.Command.{Command}
-use Rattle.runs.specs.declared.Command.TheVariants.{Start, Frame, Ack, Nak, Timeout, Lost, Nexus, Cancel, Bad}
+use Rattle.runs.specs.declared.Command.TheVariants.{Start, Frame, Ack, Nak, Timeout, Lost, Nexus, Cancel}
 
 pub record Ledger : Type 0 where
   -- B and N of the last START that was not refused
@@ -26,39 +27,39 @@ abbrev pub blank_ledger : Ledger
 blank_ledger = record { offset = 0; count = 0; going = false; read = 0; balance = 0; unanswered = 0; history = [] }
 
 -- a START's B and N, or what was there
-abbrev pub by_start : {A : Type 0} → (ℕ → ℕ → A) → A → Command → A
-by_start f a (Start b n m r) = f b n
-by_start f a Frame = a
-by_start f a Ack = a
-by_start f a Nak = a
-by_start f a Timeout = a
-by_start f a Lost = a
-by_start f a Nexus = a
-by_start f a Cancel = a
-by_start f a Bad = a
+abbrev pub by_start : {A : Type 0} → (ℕ → ℕ → A) → A → Option Command → A
+by_start f a (Some (Start b n m r)) = f b n
+by_start f a (Some Frame) = a
+by_start f a (Some Ack) = a
+by_start f a (Some Nak) = a
+by_start f a (Some Timeout) = a
+by_start f a (Some Lost) = a
+by_start f a (Some Nexus) = a
+by_start f a (Some Cancel) = a
+by_start f a None = a
 
 -- the entry of a line that was not refused, where the read offset was `from` and is `to`
-abbrev pub entry_shown : Command → ℕ → ℕ → List Entry
-entry_shown (Start b n m r) from to = started ∷ []
-entry_shown Frame from to = sent (record { at = from; len = to - from }) ∷ []
-entry_shown Ack from to = acked ∷ []
-entry_shown Nak from to = nacked ∷ []
-entry_shown Timeout from to = timed_out ∷ []
-entry_shown Lost from to = was_lost ∷ []
-entry_shown Nexus from to = ended ∷ []
-entry_shown Cancel from to = ended ∷ []
-entry_shown Bad from to = []
+abbrev pub entry_shown : Option Command → ℕ → ℕ → List Entry
+entry_shown (Some (Start b n m r)) from to = started ∷ []
+entry_shown (Some Frame) from to = sent (record { at = from; len = to - from }) ∷ []
+entry_shown (Some Ack) from to = acked ∷ []
+entry_shown (Some Nak) from to = nacked ∷ []
+entry_shown (Some Timeout) from to = timed_out ∷ []
+entry_shown (Some Lost) from to = was_lost ∷ []
+entry_shown (Some Nexus) from to = ended ∷ []
+entry_shown (Some Cancel) from to = ended ∷ []
+entry_shown None from to = []
 
 -- done, fail and end end a transfer; a refusal changes nothing
-abbrev pub goes_on : Answer → Bool → Bool
-goes_on Answer.Ok going = true
-goes_on Answer.Sent going = true
-goes_on Answer.Drain going = true
-goes_on Answer.Retry going = true
-goes_on Answer.Done going = false
-goes_on Answer.Fail going = false
-goes_on Answer.End going = false
-goes_on (Answer.Refused k) going = going
+abbrev pub goes_on : Result Answer Refusal → Bool → Bool
+goes_on (Ok Answer.Ok) going = true
+goes_on (Ok Answer.Sent) going = true
+goes_on (Ok Answer.Drain) going = true
+goes_on (Ok Answer.Retry) going = true
+goes_on (Ok Answer.Done) going = false
+goes_on (Ok Answer.Fail) going = false
+goes_on (Ok Answer.End) going = false
+goes_on (Err k) going = going
 
 abbrev pub adds : Ledger → Turn → List Entry
 adds w t = cond (is_refused t.shown.word) [] (entry_shown t.said w.read t.shown.read)
@@ -84,30 +85,30 @@ entered w (t ∷ ts) = entered (enter w t) ts
 
 -- the words that a command may get, where it is not refused: an answer leaves frames to be answered or not, drains or not, and ends
 -- the transfer or not
-abbrev pub words_for : Command → List Answer
-words_for (Start b n m r) = Answer.Ok ∷ []
-words_for Frame = Answer.Sent ∷ []
-words_for Ack = Answer.Ok ∷ Answer.Drain ∷ Answer.Retry ∷ Answer.Done ∷ []
-words_for Nak = Answer.Drain ∷ Answer.Retry ∷ Answer.Fail ∷ []
-words_for Timeout = Answer.Retry ∷ Answer.Fail ∷ []
-words_for Lost = Answer.Retry ∷ Answer.Fail ∷ []
-words_for Nexus = Answer.End ∷ []
-words_for Cancel = Answer.End ∷ []
-words_for Bad = []
+abbrev pub words_for : Option Command → List (Result Answer Refusal)
+words_for (Some (Start b n m r)) = (Ok Answer.Ok) ∷ []
+words_for (Some Frame) = (Ok Answer.Sent) ∷ []
+words_for (Some Ack) = (Ok Answer.Ok) ∷ (Ok Answer.Drain) ∷ (Ok Answer.Retry) ∷ (Ok Answer.Done) ∷ []
+words_for (Some Nak) = (Ok Answer.Drain) ∷ (Ok Answer.Retry) ∷ (Ok Answer.Fail) ∷ []
+words_for (Some Timeout) = (Ok Answer.Retry) ∷ (Ok Answer.Fail) ∷ []
+words_for (Some Lost) = (Ok Answer.Retry) ∷ (Ok Answer.Fail) ∷ []
+words_for (Some Nexus) = (Ok Answer.End) ∷ []
+words_for (Some Cancel) = (Ok Answer.End) ∷ []
+words_for None = []
 
-abbrev pub Among : Answer → List Answer → Type 0
+abbrev pub Among : Result Answer Refusal → List (Result Answer Refusal) → Type 0
 Among a [] = ⊥
 Among a (b ∷ bs) = (a ≡ b) ⊎ Among a bs
 
-abbrev pub is_drain : Answer → Bool
-is_drain Answer.Ok = false
-is_drain Answer.Sent = false
-is_drain Answer.Drain = true
-is_drain Answer.Retry = false
-is_drain Answer.Done = false
-is_drain Answer.Fail = false
-is_drain Answer.End = false
-is_drain (Answer.Refused k) = false
+abbrev pub is_drain : Result Answer Refusal → Bool
+is_drain (Ok Answer.Ok) = false
+is_drain (Ok Answer.Sent) = false
+is_drain (Ok Answer.Drain) = true
+is_drain (Ok Answer.Retry) = false
+is_drain (Ok Answer.Done) = false
+is_drain (Ok Answer.Fail) = false
+is_drain (Ok Answer.End) = false
+is_drain (Err k) = false
 
 -- ---- demand 3, sentence by sentence
 
@@ -130,7 +131,7 @@ pub record Leads (w : Ledger) (t : Turn) : Type 0 where
   -- "each resend begins at the balance point;
   pub resend : (f : Sent) → adds w t ≡ sent f ∷ [] → (view w.history).attempt ≡ [] → f.at ≡ w.balance
   -- "delivered" is answered only once every requested byte was ACKed;"
-  pub delivers : t.shown.word ≡ Answer.Done → (x : ℕ) → w.offset ≤ x → x < w.offset + w.count → Covered x (view (adds w t ++ w.history)).acked
+  pub delivers : t.shown.word ≡ Ok Answer.Done → (x : ℕ) → w.offset ≤ x → x < w.offset + w.count → Covered x (view (adds w t ++ w.history)).acked
   -- and its word is one of its command's
   pub says : is_refused t.shown.word ≡ false → Among t.shown.word (words_for t.said)
   -- which is drain exactly if the transfer goes on and a NAK was reported in the present attempt

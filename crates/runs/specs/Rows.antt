@@ -1,5 +1,6 @@
 -- Document 01, 'Read transfer': the line of output that a line of input gives. Assumes nothing.
-use Rattle.std.specs.Prelude.{ℕ, List, [], ◌∷◌, ◌++◌}
+use Rattle.refusals.specs.declared.Refusal.{Refusal}
+use Rattle.std.specs.Prelude.{ℕ, List, [], ◌∷◌, ◌++◌, Err, Ok, Result}
 use Rattle.lines.specs.Numbers.{decimal}
 use Rattle.lines.specs.Parts.{tab, lf, joined}
 use Rattle.refusals.specs.Refusals.{number_of}
@@ -28,18 +29,18 @@ fail = f ∷ a ∷ i ∷ l ∷ []
 abbrev pub end : List ℕ
 end = e ∷ n ∷ d ∷ []
 
-abbrev pub word_of : Answer → List ℕ
-word_of Answer.Ok = ok
-word_of Answer.Sent = sent
-word_of Answer.Drain = drain
-word_of Answer.Retry = retry
-word_of Answer.Done = done
-word_of Answer.Fail = fail
-word_of Answer.End = end
-word_of (Answer.Refused refusal) = decimal (number_of refusal)
+abbrev pub word_of : Result Answer Refusal → List ℕ
+word_of (Ok Answer.Ok) = ok
+word_of (Ok Answer.Sent) = sent
+word_of (Ok Answer.Drain) = drain
+word_of (Ok Answer.Retry) = retry
+word_of (Ok Answer.Done) = done
+word_of (Ok Answer.Fail) = fail
+word_of (Ok Answer.End) = end
+word_of (Err refusal) = decimal (number_of refusal)
 
 -- 01 TEXT.2: Each gives: line number, word (ok, sent, drain if an answer leaves it so, retry, done, fail, end for NEXUS and CANCEL, or refusal number), read offset, balance, unanswered, resends used.
-unfoldable pub row_of : ℕ → Answer → ℕ → ℕ → ℕ → ℕ → List ℕ
+unfoldable pub row_of : ℕ → Result Answer Refusal → ℕ → ℕ → ℕ → ℕ → List ℕ
 row_of line word read balance unanswered used =
     joined tab (decimal line ∷ word_of word ∷ decimal read ∷ decimal balance ∷ decimal unanswered ∷ decimal used ∷ [])
     ++ (lf ∷ [])

@@ -1,6 +1,6 @@
 -- Document 01, 'Read transfer': the lines of a run of `readrun` side by side: what each line of input says, and the six columns of the
 -- line of output that it gives. Assumes nothing.
-use Rattle.std.specs.Prelude.{ℕ, List, [], ◌∷◌, ◌++◌, map, ◌≡◌}
+use Rattle.std.specs.Prelude.{ℕ, List, [], ◌∷◌, ◌++◌, map, ◌≡◌, Option}
 use Rattle.lines.specs.Parts.{lines_of}
 use Rattle.transfer.specs.Rules.{unstarted}
 use Rattle.transfer.specs.Examples.{Line, line}
@@ -13,11 +13,11 @@ use Rattle.runs.specs.Output.{output_of}
 use Rattle.runs.specs.declared.Command.{Command}
 
 pub record Turn : Type 0 where
-  pub said : Command
+  pub said : Option Command
   pub shown : Line
 
 -- what a command gives behind k lines
-abbrev pub turn_of : ℕ → Command → Stepped → Turn
+abbrev pub turn_of : ℕ → Option Command → Stepped → Turn
 turn_of k c step = record { said = c; shown = line (next_line k) step.answer step.state.read step.state.balance step.state.unanswered step.state.used }
 
 -- the turns of some lines, behind k others

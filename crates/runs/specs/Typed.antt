@@ -1,5 +1,5 @@
 -- Document 01, 'Read transfer': readrun's lines and words a second time, typed as bytes. Assumes nothing.
-use Rattle.std.specs.Prelude.{ℕ, List, [], ◌∷◌}
+use Rattle.std.specs.Prelude.{ℕ, List, [], ◌∷◌, Err, Ok, Result, Option, Some}
 use Rattle.refusals.specs.declared.Refusal.{Refusal}
 use Rattle.transfer.specs.Calls.{Call, start, frame, ack, nak, timeout, lost, nexus, cancel}
 use Rattle.transfer.specs.declared.Answer.{Answer}
@@ -21,8 +21,8 @@ typed_lines =
     ∷ []
 
 -- the commands that they say, and the calls that these are
-abbrev pub typed_commands : List Command
-typed_commands = Start 1 2 3 4 ∷ Start 4294967295 0 10 0 ∷ Frame ∷ Ack ∷ Nak ∷ Timeout ∷ Lost ∷ Nexus ∷ Cancel ∷ []
+abbrev pub typed_commands : List (Option Command)
+typed_commands = Some (Start 1 2 3 4) ∷ Some (Start 4294967295 0 10 0) ∷ Some Frame ∷ Some Ack ∷ Some Nak ∷ Some Timeout ∷ Some Lost ∷ Some Nexus ∷ Some Cancel ∷ []
 
 abbrev pub typed_calls : List Call
 typed_calls = start 1 2 3 4 ∷ start 4294967295 0 10 0 ∷ frame ∷ ack ∷ nak ∷ timeout ∷ lost ∷ nexus ∷ cancel ∷ []
@@ -67,25 +67,25 @@ typed_words =
     ∷ (49 ∷ 48 ∷ [])
     ∷ []
 
-abbrev pub typed_answers : List Answer
+abbrev pub typed_answers : List (Result Answer Refusal)
 typed_answers =
-    Answer.Ok
-    ∷ Answer.Sent
-    ∷ Answer.Drain
-    ∷ Answer.Retry
-    ∷ Answer.Done
-    ∷ Answer.Fail
-    ∷ Answer.End
-    ∷ Answer.Refused Refusal.Length
-    ∷ Answer.Refused Refusal.Unlisted
-    ∷ Answer.Refused Refusal.Rules
-    ∷ Answer.Refused Refusal.Phy
-    ∷ Answer.Refused Refusal.Past
-    ∷ Answer.Refused Refusal.Unfit
-    ∷ Answer.Refused Refusal.Due
-    ∷ Answer.Refused Refusal.Sent
-    ∷ Answer.Refused Refusal.Present
-    ∷ Answer.Refused Refusal.Full
+    (Ok Answer.Ok)
+    ∷ (Ok Answer.Sent)
+    ∷ (Ok Answer.Drain)
+    ∷ (Ok Answer.Retry)
+    ∷ (Ok Answer.Done)
+    ∷ (Ok Answer.Fail)
+    ∷ (Ok Answer.End)
+    ∷ Err Refusal.Length
+    ∷ Err Refusal.Unlisted
+    ∷ Err Refusal.Rules
+    ∷ Err Refusal.Phy
+    ∷ Err Refusal.Past
+    ∷ Err Refusal.Unfit
+    ∷ Err Refusal.Due
+    ∷ Err Refusal.Sent
+    ∷ Err Refusal.Present
+    ∷ Err Refusal.Full
     ∷ []
 
 -- "7\tdone\t11\t12\t13\t14\n"

@@ -8,16 +8,15 @@ ghost use Rattle.lines.specs.Parts.{tab, field_at};
 ghost use Rattle.lines.specs.Puts.{Put};
 ghost use Rattle.runs.specs.Commands.{largest, command_named, start_of, read_line};
 ghost use Rattle.runs.specs.Commands as commands;
-ghost use Rattle.runs.specs.Rows.{row_of, longest_row};
+ghost use Rattle.runs.specs.Rows.{row, longest_row};
 ghost use Rattle.runs.specs.Rows as rows;
 ghost use Rattle.runs.specs.Feed.{enough, run_of, next_line, closing, Takes, Feeds};
 ghost use Rattle.runs.specs.Feed as feeds;
 
-use lines::Number;
 use refusals::Refusal;
 use transfer::{Answer, Stepped, Transfer};
 
-// What a line says.
+// What a line says, if it says one of these.
 #[derive(Clone, Copy)]
 pub enum Command {
     Start { b: u32, n: u32, m: u32, r: u32 },
@@ -28,8 +27,6 @@ pub enum Command {
     Lost,
     Nexus,
     Cancel,
-    // None of these.
-    Bad,
 }
 
 // A transfer, and where the next row goes.
@@ -39,7 +36,8 @@ pub struct Taken {
     pub place: usize,
 }
 
-// What is carried over from one block to the next.
+// What is carried over from one block to the next. The bytes and their number lie open, since the definitions `run_of` and `carry_of`, by
+// which the theorems on whole inputs say what a run carries, name both.
 #[derive(Clone, Copy)]
 pub struct Run {
     // The lines that have ended.
@@ -69,69 +67,56 @@ const LONGEST: usize = 255;
 // The longest row.
 const ROW: usize = 71;
 
+// Ifs, as in the crate saved: of a match on byte strings the proof doesn't close.
 // The command of one word.
-fn command_named(s: &[u8]) -> Command
+fn command_named(s: &[u8]) -> Option<Command>
     ensures { result ≡ command_named s.now }
 {
     if lines::same(s, b"FRAME") {
-        return Command::Frame;
+        return Some(Command::Frame);
     }
     if lines::same(s, b"ACK") {
-        return Command::Ack;
+        return Some(Command::Ack);
     }
     if lines::same(s, b"NAK") {
-        return Command::Nak;
+        return Some(Command::Nak);
     }
     if lines::same(s, b"TIMEOUT") {
-        return Command::Timeout;
+        return Some(Command::Timeout);
     }
     if lines::same(s, b"LOST") {
-        return Command::Lost;
+        return Some(Command::Lost);
     }
     if lines::same(s, b"NEXUS") {
-        return Command::Nexus;
+        return Some(Command::Nexus);
     }
     if lines::same(s, b"CANCEL") {
-        return Command::Cancel;
+        return Some(Command::Cancel);
     }
-    Command::Bad
+    None
 }
 
-fn number(s: &[u8], k: usize) -> Number
+// The number in field k.
+fn number(s: &[u8], k: usize) -> Option<u32>
     ensures { result ≡ read_number largest (field_at s.now k) }
 {
-    lines::read_number(lines::field_at(s, k), LARGEST)
+    let n = lines::read_number(lines::field_at(s, k), LARGEST)?;
+    Some(n as u32)
 }
 
 // The numbers behind START.
-fn start_of(s: &[u8]) -> Command
+fn start_of(s: &[u8]) -> Option<Command>
     ensures { result ≡ start_of s.now }
 {
-    let offset = number(s, 1);
-    let Number::Value(b) = offset else {
-        return Command::Bad;
-    };
-    let count = number(s, 2);
-    let Number::Value(n) = count else {
-        return Command::Bad;
-    };
-    let size = number(s, 3);
-    let Number::Value(m) = size else {
-        return Command::Bad;
-    };
-    let resends = number(s, 4);
-    let Number::Value(r) = resends else {
-        return Command::Bad;
-    };
-    Command::Start {
-        b: b as u32,
-        n: n as u32,
-        m: m as u32,
-        r: r as u32,
-    }
+    Some(Command::Start {
+        b: number(s, 1)?,
+        n: number(s, 2)?,
+        m: number(s, 3)?,
+        r: number(s, 4)?,
+    })
 }
 
-fn read_line(s: &[u8]) -> Command
+fn read_line(s: &[u8]) -> Option<Command>
     ensures { result ≡ read_line s.now }
 {
     let n = lines::field_count(s, LONGEST);
@@ -141,71 +126,38 @@ fn read_line(s: &[u8]) -> Command
     if (n == 5) & lines::same(lines::field_at(s, 0), b"START") {
         return start_of(s);
     }
-    Command::Bad
+    None
 }
 
-fn obeyed(c: Command, t: Transfer) -> Stepped
+#[tactic(auto, unfolding(crate::specs::Commands::obeyed, transfer::specs::Calls::step_of))]
+fn obeyed(c: Option<Command>, t: Transfer) -> Stepped
     ensures { result ≡ commands.obeyed c t }
 {
     match c {
-        Command::Start { b, n, m, r } => {
-            return t.start(b, n, m, r);
-        }
-        Command::Frame => {
-            return t.frame();
-        }
-        Command::Ack => {
-            return t.ack();
-        }
-        Command::Nak => {
-            return t.nak();
-        }
-        Command::Timeout => {
-            return t.timeout();
-        }
-        Command::Lost => {
-            return t.lost();
-        }
-        Command::Nexus => {
-            return t.nexus();
-        }
-        Command::Cancel => {
-            return t.cancel();
-        }
-        Command::Bad => {
-            return t.refused(Refusal::Unlisted);
-        }
+        Some(Command::Start { b, n, m, r }) => t.start(b, n, m, r),
+        Some(Command::Frame) => t.frame(),
+        Some(Command::Ack) => t.ack(),
+        Some(Command::Nak) => t.nak(),
+        Some(Command::Timeout) => t.timeout(),
+        Some(Command::Lost) => t.lost(),
+        Some(Command::Nexus) => t.nexus(),
+        Some(Command::Cancel) => t.cancel(),
+        None => t.refused(Refusal::Unlisted),
     }
 }
 
-fn put_word(a: Answer, out: &mut [u8], at: usize) -> usize
+fn put_word(a: Result<Answer, Refusal>, out: &mut [u8], at: usize) -> usize
     ensures { Put out.old at (rows.word_of a) result out.new }
 {
     match a {
-        Answer::Ok => {
-            return lines::put_bytes(b"ok", out, at);
-        }
-        Answer::Sent => {
-            return lines::put_bytes(b"sent", out, at);
-        }
-        Answer::Drain => {
-            return lines::put_bytes(b"drain", out, at);
-        }
-        Answer::Retry => {
-            return lines::put_bytes(b"retry", out, at);
-        }
-        Answer::Done => {
-            return lines::put_bytes(b"done", out, at);
-        }
-        Answer::Fail => {
-            return lines::put_bytes(b"fail", out, at);
-        }
-        Answer::End => {
-            return lines::put_bytes(b"end", out, at);
-        }
-        Answer::Refused(k) => {
-            return lines::put_number(refusals::number(k) as u64, out, at);
-        }
+        Ok(Answer::Ok) => lines::put_bytes(b"ok", out, at),
+        Ok(Answer::Sent) => lines::put_bytes(b"sent", out, at),
+        Ok(Answer::Drain) => lines::put_bytes(b"drain", out, at),
+        Ok(Answer::Retry) => lines::put_bytes(b"retry", out, at),
+        Ok(Answer::Done) => lines::put_bytes(b"done", out, at),
+        Ok(Answer::Fail) => lines::put_bytes(b"fail", out, at),
+        Ok(Answer::End) => lines::put_bytes(b"end", out, at),
+        Err(k) => lines::put_number(u64::from(u8::from(k)), out, at),
     }
 }
 
@@ -214,68 +166,48 @@ fn put_column(n: u32, out: &mut [u8], at: usize) -> usize
     ensures { Put out.old at (tab ∷ decimal n) result out.new }
 {
     let p = lines::put_byte(b'\t', out, at);
-    lines::put_number(n as u64, out, p)
+    lines::put_number(u64::from(n), out, p)
 }
 
-fn put_row(
-    line: u64,
-    a: Answer,
-    read: u32,
-    balance: u32,
-    unanswered: u32,
-    used: u32,
-    out: &mut [u8],
-    at: usize,
-) -> usize
-    ensures put { Put out.old at (row_of line a read balance unanswered used) result out.new }
-    ensures used_len_bound { length (row_of line a read balance unanswered used) ≤ longest_row }
+// The row of a line, by what its call answered and left.
+fn put_row(line: u64, step: Stepped, out: &mut [u8], at: usize) -> usize
+    ensures put { Put out.old at (row line step) result out.new }
+    ensures used_len_bound { length (row line step) ≤ longest_row }
 {
+    let state = step.state;
     let p = lines::put_number(line, out, at);
     let p = lines::put_byte(b'\t', out, p);
-    let p = put_word(a, out, p);
-    let p = put_column(read, out, p);
-    let p = put_column(balance, out, p);
-    let p = put_column(unanswered, out, p);
-    let p = put_column(used, out, p);
+    let p = put_word(step.answer, out, p);
+    let p = put_column(state.read, out, p);
+    let p = put_column(state.balance, out, p);
+    let p = put_column(state.unanswered, out, p);
+    let p = put_column(state.used, out, p);
     lines::put_byte(b'\n', out, p)
 }
 
-// One line of input: a call on the transfer, and its row put into out from a place on.
+// One line of input: a call on the transfer, and its row put into out from a place on. The output and the place travel together, as in
+// `lines`, whose writers promise by `Put` of both.
 pub fn take_line(line: u64, t: Transfer, s: &[u8], out: &mut [u8], at: usize) -> Taken
     ensures { Takes line t s.now out.old at result out.new }
 {
     let step = obeyed(read_line(s), t);
-    let a = step.answer;
-    let state = step.state;
-    let place = put_row(
-        line,
-        a,
-        state.read,
-        state.balance,
-        state.unanswered,
-        state.used,
-        out,
-        at,
-    );
-    Taken { state, place }
+    let place = put_row(line, step, out, at);
+    Taken {
+        state: step.state,
+        place,
+    }
 }
 
 fn next_line(line: u64) -> u64
     ensures { result ≡ next_line line }
 {
-    if line < 0xffffffffffffffff {
-        return line + 1;
-    }
-    line
+    line.saturating_add(1)
 }
 
 fn front(s: &[u8], n: usize) -> &[u8]
     ensures { result.now ≡ take n s.now }
 {
-    if n <= s.len() {
-        return &s[..n];
-    }
-    s
+    s.get(..n).unwrap_or(s)
 }
 
 // The line that has begun ends with `part`.
@@ -332,7 +264,8 @@ fn places(keep: [u8; 256]) -> [u8; 256]
     keep
 }
 
-// Takes the bytes of a block up to an LF whose row might not fit into out.
+// Takes the bytes of a block up to an LF whose row might not fit into out. The place in the block is counted, since it is a part of the
+// answer: with what is left of the block in its stead, each way out would take the place back by a subtraction.
 pub fn feed(run: Run, block: &[u8], out: &mut [u8]) -> Fed
     ensures { Feeds run block.now out.old result out.new }
 {

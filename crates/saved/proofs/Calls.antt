@@ -1,5 +1,6 @@
 -- What is saved is restored as it was: save lays the line at the front of the output and says its length, and restore takes exactly the lines of transfers that
 -- some history leaves. Assumes nothing.
+use Rattle.std.specs.Prelude.{Err, Ok, Result}
 use Prim.Native.Nat.{ℕ}
 use mathlib.Core.Bool.{true, false}
 use mathlib.Core.List.{List}
@@ -12,7 +13,6 @@ use Rattle.laws.proofs.Bools.{never}
 use Rattle.laws.proofs.Tests.{less, unless}
 use Rattle.refusals.specs.Causes.{by_check, First, Decides, nil, cons}
 use Rattle.refusals.specs.declared.Refusal.{Refusal}
-use Rattle.refusals.specs.declared.Checked.{Checked}
 use Rattle.refusals.proofs.Causes.{through, only, if_first}
 use Rattle.transfer.specs.Rules.{keeps_rules}
 use Rattle.transfer.specs.declared.Transfer.{Transfer}
@@ -27,10 +27,10 @@ use Rattle.saved.proofs.Laid.{Lays, no_cause, in_front}
 
 -- ---- refusals of a check, told apart
 
-pub one : (j k : Refusal) → Checked.Refused j ≡ Checked.Refused k → j ≡ k
+pub one : (j k : Refusal) → ◌≡◌ {A = Result (Unit {0}) Refusal} (Err j) (Err k) → j ≡ k
 one j k e = cc
 
-pub passed_apart : (k : Refusal) → Checked.Passed ≡ Checked.Refused k → ⊥
+pub passed_apart : (k : Refusal) → ◌≡◌ {A = Result (Unit {0}) Refusal} (Ok tt) (Err k) → ⊥
 passed_apart k e = never (ap (by_check (λ (_ : Refusal). false) true) (sym e))
 
 -- ---- restore
@@ -47,12 +47,12 @@ module _ (line : List ℕ) where
   restore_decides : Decides (restore_causes line) (restore_grounds line)
   restore_decides = cons (unless (exact newest (omega arith) line)) nil
 
-  pub restore_exactly : (k : Refusal) → ((restore_of line).answer ≡ Checked.Refused k) ↔ First (restore_grounds line) k
+  pub restore_exactly : (k : Refusal) → ((restore_of line).answer ≡ Err k) ↔ First (restore_grounds line) k
   unfolding restore_of
   restore_exactly k =
       let is = through (λ (r : Restored). r.answer) unrestored (restore_causes line) (restored (state_of line)) in (
-        (λ e. only Checked.Refused Checked.Passed one passed_apart restore_decides k (sym is ∙ e)),
-        (λ f. is ∙ if_first Checked.Refused Checked.Passed one passed_apart restore_decides k f),
+        (λ e. only Err (Ok tt) one passed_apart restore_decides k (sym is ∙ e)),
+        (λ f. is ∙ if_first Err (Ok tt) one passed_apart restore_decides k f),
       )
 
 -- the line of a state that keeps its rules gives it back
@@ -67,7 +67,7 @@ pub save_decides : (s : Transfer) (out : List ℕ) → Decides (save_causes newe
 save_decides s out = cons (less (length out) (room_of newest)) (cons (unless (transfer.exact (bound_of newest) (omega arith) s)) nil)
 
 module _ {form : ℕ} {s : Transfer} {before after : List ℕ} {r : Saved} (p : Save form s before r after) where
-  pub lays : Lays Checked.Refused Checked.Passed one passed_apart (save_causes form s before) (line_of form s) before r.answer r.length after
+  pub lays : Lays Err (Ok tt) one passed_apart (save_causes form s before) (line_of form s) before r.answer r.length after
   lays = record {
     answers = ap (λ (x : Saved). x.answer) p.answer ∙ through (λ (x : Saved). x.answer) unsaved (save_causes form s before) _;
     counts = ap (λ (x : Saved). x.length) p.answer ∙ through (λ (x : Saved). x.length) unsaved (save_causes form s before) _;
@@ -75,8 +75,8 @@ module _ {form : ℕ} {s : Transfer} {before after : List ℕ} {r : Saved} (p : 
   }
 
 -- a swap, save and then restore, gives the transfer back
-pub swap_same : {s : Transfer} {before after : List ℕ} {r : Saved} → Save newest s before r after → r.answer ≡ Checked.Passed → restore_of (take r.length after) ≡ restored s
+pub swap_same : {s : Transfer} {before after : List ℕ} {r : Saved} → Save newest s before r after → r.answer ≡ Ok tt → restore_of (take r.length after) ≡ restored s
 swap_same {s} p took =
-    let off = no_cause Checked.Refused Checked.Passed one passed_apart (lays p) took in
-    ap restore_of (in_front Checked.Refused Checked.Passed one passed_apart (lays p) took)
+    let off = no_cause Err (Ok tt) one passed_apart (lays p) took in
+    ap restore_of (in_front Err (Ok tt) one passed_apart (lays p) took)
     ∙ restore_back s (not-false (keeps_rules (bound_of newest) s) off.1.0)

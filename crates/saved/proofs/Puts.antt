@@ -1,4 +1,5 @@
 -- Numbers are put with their tabs one behind the other, as they stand in `tabbed`, and a line for which there is room is put whole. Assumes nothing.
+use Rattle.std.specs.Prelude.{Ok}
 use Prim.Native.Nat.{ℕ, ◌+◌, ◌≤◌, ◌<◌}
 use mathlib.Core.Bool.{true}
 use mathlib.Core.List.{List, [], ◌∷◌, ◌++◌, append_assoc}
@@ -12,7 +13,6 @@ use Rattle.lines.specs.Numbers.{decimal}
 use Rattle.lines.specs.Parts.{tab}
 use Rattle.lines.specs.Puts.{Put}
 use Rattle.lines.proofs.Puts.{then, fits_front}
-use Rattle.refusals.specs.declared.Checked.{Checked}
 use Rattle.transfer.specs.Rules.{keeps_rules}
 use Rattle.transfer.specs.declared.Transfer.{Transfer}
 use Rattle.saved.specs.Saved.{bound_of, room_of, line_of, Save}
@@ -33,11 +33,11 @@ all_numbers ns i h a = rw (take_all i ns h) at a
 
 -- a line that was put where there is room for every line of its form
 pub line_saved : (form : ℕ) (s : Transfer) {l m : List ℕ} {r : ℕ} → form < 10 → room_of form ≤ length l → keeps_rules (bound_of form) s ≡ true → Put l 0 (line_of form s) r m →
-    Save form s l (record { answer = Checked.Passed; length = r }) m
+    Save form s l (record { answer = Ok tt; length = r }) m
 line_saved form s {l} {m} {r} f h k a =
     let fits : length (line_of form s) ≤ length l = omega (arith, line_short form s f k) in
     let long : r ≡ length (line_of form s) = omega (arith, a.place) in
     record {
-      answer = rw (le-ltb (length l) (room_of form) h, k) (λ i. record { answer = Checked.Passed; length = long i });
+      answer = rw (le-ltb (length l) (room_of form) h, k) (λ i. record { answer = Ok tt; length = long i });
       bytes = rw (le-ltb (length l) (room_of form) h, k) (fits_front a fits);
     }

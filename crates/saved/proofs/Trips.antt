@@ -1,5 +1,6 @@
 -- A line says the transfer whose line it is, and is the line of the transfer that it says: each number is read as it is written and
 -- written as it is read, and so is the phase. Assumes nothing.
+use Rattle.std.specs.Prelude.{None, Some}
 use Prim.Native.Nat.{ℕ, ◌≤◌}
 use mathlib.Core.Bool.{Bool, true, false, cond}
 use mathlib.Core.List.{List, [], ◌∷◌, ◌++◌, map}
@@ -16,14 +17,12 @@ use Rattle.laws.proofs.Names.{flag_back, flag_at}
 use Rattle.laws.proofs.Tests.{most, equal, itself, both}
 use Rattle.lines.specs.Numbers.{all_digits, begins, value_from, is_number, read_number, decimal}
 use Rattle.lines.specs.Parts.{tab, fields_of, field_at, joined}
-use Rattle.lines.specs.declared.Number.TheVariants.{Value, Not}
 use Rattle.lines.proofs.Numbers.{decimal_value, read_written, number_is}
 use Rattle.lines.proofs.Parts.{fields_joined}
 use Rattle.transfer.specs.Rules.{keeps_rules}
 use Rattle.transfer.specs.declared.Transfer.{Transfer}
 use Rattle.transfer.specs.declared.Phase.{Phase}
 use Rattle.saved.specs.Saved.{columns, phase_word, line_of, largest, all_numbers, front, numbers_of, phase_named, is_phase, phase_in, shaped, state_by, state_of}
-use Rattle.saved.specs.declared.Named.TheVariants.{Is}
 use Rattle.saved.proofs.Words.{word_named, said_word}
 use Rattle.saved.proofs.Lines.{line_fields, AtMost, mosts, flag_most, rules_most}
 
@@ -33,7 +32,7 @@ decimal_number : (n : ℕ) → n ≤ largest → is_number largest (decimal n) �
 unfolding read_number
 decimal_number n h = by (is_number largest (decimal n)) (read_written largest n h)
   where
-    by : (t : Bool) → cond t (Value (value_from 0 (decimal n))) Not ≡ Value n → t ≡ true
+    by : (t : Bool) → cond t (Some (value_from 0 (decimal n))) None ≡ Some n → t ≡ true
     by true e = refl
     by false e = let z : ◌≡◌ {A = ℕ} 0 1 = cc in absurd (omega arith)
 
@@ -73,7 +72,7 @@ module _ (form : ℕ) (s : Transfer) where
   line_numbers : numbers_of (front (line_of form s)) ≡ columns form s
   line_numbers = ap numbers_of line_front ∙ values_back (columns form s)
 
-  line_named : phase_named (field_at (line_of form s) 10) ≡ Is s.phase
+  line_named : phase_named (field_at (line_of form s) 10) ≡ Some s.phase
   line_named = ap (λ (fs : List (List ℕ)). phase_named (get_or fs 10 [])) (line_fields form s) ∙ word_named s.phase
 
   columns_back : state_by (columns form s) s.phase ≡ s

@@ -1,5 +1,6 @@
 -- The reader stands behind some fields of the line: each is a number, and a tab stands behind it. A turn passes one field more. Where no
 -- tab is left there are too few fields, and where a field is no number the front has one that is none. Assumes nothing.
+use Rattle.std.specs.Prelude.{None, Option, Some}
 use Prim.Native.Nat.{ℕ, zero, suc, ◌+◌, ◌-◌, ◌≤◌, ◌<◌}
 use mathlib.Core.Bool.{Bool, true, false, ◌&&◌}
 use mathlib.Core.List.{List, [], ◌∷◌, ◌++◌, append_assoc, map-append}
@@ -10,15 +11,12 @@ use borrow.Author.Tests.{lt-ltb, le-ltb}
 use lib.Dec.{ltb}
 use lib.ListN.{length, take, drop, set, length-append, length-drop, length-set}
 use lib.Seq.{take-suc-set, take_all, take_at, drop-drop}
-use Rattle.laws.proofs.Bools.{impossible, and_left, and_right, and_true, and_false, by_test}
+use Rattle.laws.proofs.Bools.{and_left, and_right, and_true, and_false, by_test}
 use Rattle.lines.specs.Numbers.{is_number, value_from, read_number}
 use Rattle.lines.specs.Parts.{tab, fields_of, place_of, place_from}
-use Rattle.lines.specs.declared.Number.{Number}
-use Rattle.lines.specs.declared.Number.TheVariants.{Value, Not}
 use Rattle.lines.proofs.Parts.{on_fields, one_field, first_part, front_free, at_place, nowhere, place_within}
 use Rattle.saved.specs.Saved.{largest, all_numbers, front, numbers_of}
-use Rattle.saved.specs.Walk.{Columned}
-use Rattle.saved.specs.declared.Columns.{Columns}
+use Rattle.saved.specs.Walk.{has_columns, Columned}
 
 -- ---- fields that are numbers
 
@@ -34,17 +32,17 @@ one_not zero ps f fs h e = absurd (omega arith)
 one_not (suc n) [] f fs h e = ap (λ (t : Bool). t && all_numbers (take n fs)) e
 one_not (suc n) (p ∷ ps) f fs h e = and_false (is_number largest p) (one_not n ps f fs (omega arith) e)
 
-value_is : (s : List ℕ) (n : ℕ) → read_number largest s ≡ Value n → (is_number largest s ≡ true) × (n ≡ value_from 0 s)
+value_is : (s : List ℕ) (n : ℕ) → read_number largest s ≡ Some n → (is_number largest s ≡ true) × (n ≡ value_from 0 s)
 unfolding read_number
 value_is s n =
-    by_test (λ (x : Number). x ≡ Value n → (is_number largest s ≡ true) × (n ≡ value_from 0 s)) (is_number largest s)
+    by_test (λ (x : Option ℕ). x ≡ Some n → (is_number largest s ≡ true) × (n ≡ value_from 0 s)) (is_number largest s)
     (λ t e. (t, cc))
     (λ t e. let z : ◌≡◌ {A = ℕ} 0 1 = cc in absurd (omega arith))
 
-not_is : (s : List ℕ) → read_number largest s ≡ Not → is_number largest s ≡ false
+not_is : (s : List ℕ) → read_number largest s ≡ None → is_number largest s ≡ false
 unfolding read_number
 not_is s =
-    by_test (λ (x : Number). x ≡ Not → is_number largest s ≡ false) (is_number largest s)
+    by_test (λ (x : Option ℕ). x ≡ None → is_number largest s ≡ false) (is_number largest s)
     (λ t e. let z : ◌≡◌ {A = ℕ} 0 1 = cc in absurd (omega arith))
     (λ t e. t)
 
@@ -64,16 +62,6 @@ pub record Walked (line numbers : List ℕ) (at i : ℕ) : Type 0 where
 pub walk_first : (line numbers : List ℕ) → length numbers ≡ 10 → Walked line numbers 0 0
 walk_first line numbers h =
     record { passed = []; many = refl; few = omega arith; within = omega arith; split = refl; good = refl; values = refl; size = h }
-
--- there are no ten columns, and of the rest nothing is asked
-none_there : {line : List ℕ} (r : Columns) → r.good ≡ false → ltb 10 (length (fields_of line)) && all_numbers (front line) ≡ false → Columned line r
-none_there r b e =
-    record {
-      good = b ∙ sym e;
-      numbers = λ t. impossible (sym b ∙ t);
-      within = λ t. impossible (sym b ∙ t);
-      rest = λ t. impossible (sym b ∙ t);
-    }
 
 some_field : (s : List ℕ) → 0 < length (fields_of s)
 some_field s = on_fields (λ ps. 0 < length ps) (λ p ps. omega arith) s
@@ -96,12 +84,12 @@ module _ {line numbers : List ℕ} {at i : ℕ} (w : Walked line numbers at i) w
     end_behind = omega (arith, e)
 
     -- no tab is left
-    pub walk_short : (r : Columns) → r.good ≡ false → end ≡ length line → i < 10 → Columned line r
-    walk_short r b z h =
+    pub walk_short : end ≡ length line → i < 10 → has_columns line ≡ false
+    walk_short z h =
         let last : length left ≤ place_of tab left = omega (arith, e, length-drop at line) in
         let one : length (fields_of left) ≡ 1 = ap length (one_field left (nowhere tab left last)) in
         let few : length (fields_of line) ≤ 10 = omega (arith, counted) in
-        none_there r b (rw (le-ltb 10 (length (fields_of line)) few))
+        rw (le-ltb 10 (length (fields_of line)) few)
 
     -- the field up to the next tab
     abbrev field : List ℕ
@@ -116,14 +104,14 @@ module _ {line numbers : List ℕ} {at i : ℕ} (w : Walked line numbers at i) w
         w.split ∙ ap (λ (ps : List (List ℕ)). w.passed ++ ps) (fields_cut left there ∙ (λ n. take (far n) left ∷ fields_of (behind n)))
 
     -- it is no number
-    pub walk_other : (r : Columns) → r.good ≡ false → (end ≡ length line → ⊥) → i < 10 → read_number largest field ≡ Not → Columned line r
-    walk_other r b h l o =
+    pub walk_other : (end ≡ length line → ⊥) → i < 10 → read_number largest field ≡ None → has_columns line ≡ false
+    walk_other h l o =
         let here : length w.passed < 10 = omega (arith, w.many) in
         let none : all_numbers (front line) ≡ false = ap (λ (ps : List (List ℕ)). all_numbers (take 10 ps)) (split_on h) ∙ one_not 10 w.passed field _ here (not_is field o) in
-        none_there r b (and_false (ltb 10 (length (fields_of line))) none)
+        and_false (ltb 10 (length (fields_of line))) none
 
     -- it is a number
-    pub walk_on : {n : ℕ} → (end ≡ length line → ⊥) → i < 10 → read_number largest field ≡ Value n → Walked line (set numbers i n) (end + 1) (i + 1)
+    pub walk_on : {n : ℕ} → (end ≡ length line → ⊥) → i < 10 → read_number largest field ≡ Some n → Walked line (set numbers i n) (end + 1) (i + 1)
     walk_on {n} h l v =
         let room : i < length numbers = omega (arith, w.size) in
         record {
@@ -138,14 +126,14 @@ module _ {line numbers : List ℕ} {at i : ℕ} (w : Walked line numbers at i) w
         }
 
   -- all ten are passed
-  pub walk_end : (r : Columns) → r.good ≡ true → r.numbers ≡ numbers → r.next ≡ at → 10 ≤ i → Columned line r
-  walk_end r b m p h =
+  pub walk_end : 10 ≤ i → Columned line (record { numbers = numbers; next = at })
+  walk_end h =
       let ten : length w.passed ≡ 10 = omega (arith, w.many, w.few) in
       let first : front line ≡ w.passed = ap (take 10) w.split ∙ take_at w.passed (fields_of left) 10 ten in
       let more : 10 < length (fields_of line) = omega (arith, counted, some_field left) in
       record {
-        good = b ∙ sym (and_true (lt-ltb 10 (length (fields_of line)) more) (ap all_numbers first ∙ w.good));
-        numbers = λ _. m ∙ sym (take_all i numbers (omega (arith, w.size))) ∙ w.values ∙ ap numbers_of (sym first);
-        within = λ _. omega (arith, p, w.within);
-        rest = λ _. w.split ∙ (λ n. sym first n ++ fields_of (drop (sym p n) line));
+        there = and_true (lt-ltb 10 (length (fields_of line)) more) (ap all_numbers first ∙ w.good);
+        numbers = sym (take_all i numbers (omega (arith, w.size))) ∙ w.values ∙ ap numbers_of (sym first);
+        within = w.within;
+        rest = w.split ∙ ap (λ (fs : List (List ℕ)). fs ++ fields_of (drop at line)) (sym first);
       }

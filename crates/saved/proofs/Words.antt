@@ -1,5 +1,6 @@
 -- A phase's word names that phase alone, and none is a front of another: the first two letters tell the phase, and with it the length.
 -- Assumes nothing.
+use Rattle.std.specs.Prelude.{None, Option, Some}
 use Prim.Native.Nat.{ℕ, ◌+◌, ◌≤◌}
 use mathlib.Core.Bool.{Bool, true, cond}
 use mathlib.Core.List.{List, [], ◌∷◌, ◌++◌, append-nil}
@@ -11,10 +12,8 @@ use Rattle.lines.specs.Parts.{tab, same}
 use Rattle.lines.proofs.Parts.{free, same_is}
 use Rattle.transfer.specs.declared.Phase.{Phase}
 use Rattle.saved.specs.Saved.{phase_word, phase_named, is_phase, phase_in}
-use Rattle.saved.specs.declared.Named.{Named}
-use Rattle.saved.specs.declared.Named.TheVariants.{Is, Not}
 
-pub word_named : (p : Phase) → phase_named (phase_word p) ≡ Is p
+pub word_named : (p : Phase) → phase_named (phase_word p) ≡ Some p
 word_named Phase.New = refl
 word_named Phase.Run = refl
 word_named Phase.Drain = refl
@@ -23,13 +22,13 @@ word_named Phase.Fail = refl
 word_named Phase.End = refl
 
 module _ (w : List ℕ) (p : Phase) where
-  by_word : (q : Phase) (rest : Named) → (rest ≡ Is p → w ≡ phase_word p) → cond (same w (phase_word q)) (Is q) rest ≡ Is p → w ≡ phase_word p
+  by_word : (q : Phase) (rest : Option Phase) → (rest ≡ Some p → w ≡ phase_word p) → cond (same w (phase_word q)) (Some q) rest ≡ Some p → w ≡ phase_word p
   by_word q rest other =
-      by_test (λ (n : Named). n ≡ Is p → w ≡ phase_word p) (same w (phase_word q))
-      (λ t e. same_is w (phase_word q) t ∙ ap (λ (n : Named). phase_word (phase_in n)) e)
+      by_test (λ (n : Option Phase). n ≡ Some p → w ≡ phase_word p) (same w (phase_word q))
+      (λ t e. same_is w (phase_word q) t ∙ ap (λ (n : Option Phase). phase_word (phase_in n)) e)
       (λ t e. other e)
 
-  pub named_word : phase_named w ≡ Is p → w ≡ phase_word p
+  pub named_word : phase_named w ≡ Some p → w ≡ phase_word p
   named_word =
       by_word Phase.New _
       (by_word Phase.Run _
@@ -42,9 +41,9 @@ module _ (w : List ℕ) (p : Phase) where
 pub said_word : (w : List ℕ) → is_phase (phase_named w) ≡ true → w ≡ phase_word (phase_in (phase_named w))
 said_word w = by (phase_named w) refl
   where
-    by : (n : Named) → phase_named w ≡ n → is_phase n ≡ true → w ≡ phase_word (phase_in n)
-    by (Is p) e h = named_word w p e
-    by Not e h = absurd (never h)
+    by : (n : Option Phase) → phase_named w ≡ n → is_phase n ≡ true → w ≡ phase_word (phase_in n)
+    by (Some p) e h = named_word w p e
+    by None e h = absurd (never h)
 
 pub word_free : (p : Phase) → free tab (phase_word p) ≡ true
 word_free Phase.New = refl

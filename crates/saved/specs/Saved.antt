@@ -1,18 +1,15 @@
 -- Document 02, request a): the line of a transfer, which lines have that form, and which of them some history leaves. The form's number is
 -- an argument: columns 1 to 10 and the phase at the end are those of every form. Assumes nothing.
-use Rattle.std.specs.Prelude.{ℕ, Bool, true, false, not, cond, ◌&&◌, List, [], ◌∷◌, ◌++◌, map, ◌≡◌, ltb, leb, eqb, length, take, drop, get_or}
+use Rattle.std.specs.Prelude.{ℕ, Bool, true, false, not, cond, ◌&&◌, List, [], ◌∷◌, ◌++◌, map, ◌≡◌, ltb, leb, eqb, length, take, drop, get_or, Err, Ok, None, Option, Some}
 use Rattle.laws.specs.Names.{flag}
 use Rattle.lines.specs.Numbers.{is_number, value_from, decimal}
 use Rattle.lines.specs.Parts.{tab, fields_of, field_at, joined, same}
 use Rattle.refusals.specs.Causes.{Cause, ◌when◌, refuse}
 use Rattle.refusals.specs.declared.Refusal.{Refusal}
-use Rattle.refusals.specs.declared.Checked.{Checked}
 use Rattle.transfer.specs.Rules.{unstarted, keeps_rules}
 use Rattle.transfer.specs.Steps.{limit}
 use Rattle.transfer.specs.declared.Transfer.{Transfer}
 use Rattle.transfer.specs.declared.Phase.{Phase}
-use Rattle.saved.specs.declared.Named.{Named}
-use Rattle.saved.specs.declared.Named.TheVariants.{Is, Not}
 use Rattle.saved.specs.declared.Restored.{Restored}
 use Rattle.saved.specs.declared.Saved.{Saved}
 
@@ -88,23 +85,23 @@ abbrev pub column_of : List ℕ → ℕ → ℕ
 column_of line k = get_or (numbers_of (front line)) k 0
 
 -- the phase that a word names
-abbrev pub phase_named : List ℕ → Named
+abbrev pub phase_named : List ℕ → Option Phase
 phase_named w =
-    cond (same w (phase_word Phase.New)) (Is Phase.New)
-    (cond (same w (phase_word Phase.Run)) (Is Phase.Run)
-    (cond (same w (phase_word Phase.Drain)) (Is Phase.Drain)
-    (cond (same w (phase_word Phase.Done)) (Is Phase.Done)
-    (cond (same w (phase_word Phase.Fail)) (Is Phase.Fail)
-    (cond (same w (phase_word Phase.End)) (Is Phase.End) Not)))))
+    cond (same w (phase_word Phase.New)) (Some Phase.New)
+    (cond (same w (phase_word Phase.Run)) (Some Phase.Run)
+    (cond (same w (phase_word Phase.Drain)) (Some Phase.Drain)
+    (cond (same w (phase_word Phase.Done)) (Some Phase.Done)
+    (cond (same w (phase_word Phase.Fail)) (Some Phase.Fail)
+    (cond (same w (phase_word Phase.End)) (Some Phase.End) None)))))
 
-abbrev pub is_phase : Named → Bool
-is_phase (Is p) = true
-is_phase Not = false
+abbrev pub is_phase : Option Phase → Bool
+is_phase (Some p) = true
+is_phase None = false
 
 -- where there is none nobody asks
-abbrev pub phase_in : Named → Phase
-phase_in (Is p) = p
-phase_in Not = Phase.New
+abbrev pub phase_in : Option Phase → Phase
+phase_in (Some p) = p
+phase_in None = Phase.New
 
 -- the line has a form: eleven fields, ten numbers and a phase, of which the first is the form's own and the ninth 0 or 1
 abbrev pub shaped : ℕ → List ℕ → Bool
@@ -145,10 +142,10 @@ abbrev pub restore_causes : List ℕ → List Cause
 restore_causes line = (Refusal.Unlisted when not (taken 1 line)) ∷ []
 
 abbrev pub restored : Transfer → Restored
-restored s = record { answer = Checked.Passed; state = s }
+restored s = record { answer = Ok tt; state = s }
 
 abbrev pub unrestored : Refusal → Restored
-unrestored k = record { answer = Checked.Refused k; state = unstarted }
+unrestored k = record { answer = Err k; state = unstarted }
 
 -- what `restore` gives: a refusal gives the state before START
 unfoldable pub restore_of : List ℕ → Restored
@@ -163,7 +160,7 @@ save_causes form s out =
     ∷ []
 
 abbrev pub unsaved : Refusal → Saved
-unsaved k = record { answer = Checked.Refused k; length = 0 }
+unsaved k = record { answer = Err k; length = 0 }
 
 -- a line at the front of an output, whose other bytes stay
 abbrev pub laid : List ℕ → List ℕ → List ℕ
@@ -171,5 +168,5 @@ laid line out = line ++ drop (length line) out
 
 -- what `save` promises of its answer r and of the output as it leaves it
 pub record Save (form : ℕ) (s : Transfer) (before : List ℕ) (r : Saved) (after : List ℕ) : Type 0 where
-  pub answer : r ≡ refuse unsaved (save_causes form s before) (record { answer = Checked.Passed; length = length (line_of form s) })
+  pub answer : r ≡ refuse unsaved (save_causes form s before) (record { answer = Ok tt; length = length (line_of form s) })
   pub bytes : after ≡ refuse (λ _. before) (save_causes form s before) (laid (line_of form s) before)

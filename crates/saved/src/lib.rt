@@ -1,55 +1,37 @@
 // Document 02, request a): a transfer as one line of text, which is read back after a swap of firmware. Form 1 is the only one so far.
 #![tactic(auto)]
 
-ghost use Rattle.std.specs.Prelude.{◌≡◌, false};
-ghost use Rattle.laws.specs.Names as names;
+ghost use Rattle.std.specs.Prelude.{◌≡◌};
 ghost use Rattle.lines.specs.Puts.{Put};
 ghost use Rattle.saved.specs.Saved.{newest, phase_word, line_of, phase_named, state_by, restore_of, Save};
 ghost use Rattle.saved.specs.Saved as saved;
-ghost use Rattle.saved.specs.Walk.{tabbed, Columned, Reads};
-ghost use Rattle.saved.specs.Walk as walk;
+ghost use Rattle.saved.specs.Walk.{tabbed, ColumnsRead, line_read};
 
-use lines::Number;
-use refusals::{Checked, Refusal};
+use refusals::Refusal;
 use transfer::{Phase, Transfer};
 
+// A struct and no Result<Transfer, Refusal>: what a refusal leaves is promised too, the state before START.
 #[derive(Clone, Copy)]
 pub struct Restored {
-    pub answer: Checked,
+    pub answer: Result<(), Refusal>,
     // On a refusal the state before START.
     pub state: Transfer,
 }
 
+// The same of a line's length, which a refusal leaves at 0.
 #[derive(Clone, Copy)]
 pub struct Saved {
-    pub answer: Checked,
+    pub answer: Result<(), Refusal>,
     // The bytes of the line, 0 on a refusal.
     pub length: usize,
 }
 
-// What a field says of the phase.
-#[derive(Clone, Copy)]
-enum Named {
-    Is(Phase),
-    Not,
-}
-
-// The ten numbers in front of a line.
+// The ten numbers in front of a line, each with a tab behind it.
 #[derive(Clone, Copy)]
 struct Columns {
-    // Whether they are there, each with a tab behind it.
-    good: bool,
     numbers: [u32; 10],
     // Where the rest of the line begins.
     next: usize,
-}
-
-#[derive(Clone, Copy)]
-struct Line {
-    // Whether the line has a saved form.
-    shaped: bool,
-    // The transfer that it says.
-    state: Transfer,
 }
 
 // The form that is written.
@@ -64,69 +46,49 @@ pub const ROOM: usize = 69;
 // The largest number of a line.
 const LARGEST: u64 = 0xffffffff;
 
-// There are not ten, whatever was read.
-fn no_columns(numbers: [u32; 10]) -> Columns
-    ensures { result.good ≡ false }
-{
-    Columns {
-        good: false,
-        numbers,
-        next: 0,
-    }
-}
-
-// Reads the columns from tab to tab.
-fn read_columns(line: &[u8]) -> Columns
-    ensures { Columned line.now result }
+// Reads the columns from tab to tab, if there are ten.
+fn read_columns(line: &[u8]) -> Option<Columns>
+    ensures { ColumnsRead line.now result }
 {
     let mut numbers = [0u32; 10];
-    let mut at = 0;
-    let mut i = 0;
-    while i < 10 {
-        let end = lines::place_from(b'\t', line, at);
+    let mut next = 0;
+    for i in 0..10 {
+        let end = lines::place_from(b'\t', line, next);
         if end == line.len() {
-            return no_columns(numbers);
+            return None;
         }
-        let number = lines::read_number(&line[at..end], LARGEST);
-        let Number::Value(n) = number else {
-            return no_columns(numbers);
-        };
-        numbers[i] = n as u32;
-        at = end + 1;
-        i += 1;
+        numbers[i] = lines::read_number(&line[next..end], LARGEST)? as u32;
+        next = end + 1;
     }
-    Columns {
-        good: true,
-        numbers,
-        next: at,
-    }
+    Some(Columns { numbers, next })
 }
 
-fn phase_named(w: &[u8]) -> Named
+fn phase_named(w: &[u8]) -> Option<Phase>
     ensures { result ≡ phase_named w.now }
 {
+    // A match on the words was tried: no proof closes at the ways by which none of them fits.
     if lines::same(w, b"new") {
-        return Named::Is(Phase::New);
+        return Some(Phase::New);
     }
     if lines::same(w, b"run") {
-        return Named::Is(Phase::Run);
+        return Some(Phase::Run);
     }
     if lines::same(w, b"drain") {
-        return Named::Is(Phase::Drain);
+        return Some(Phase::Drain);
     }
     if lines::same(w, b"done") {
-        return Named::Is(Phase::Done);
+        return Some(Phase::Done);
     }
     if lines::same(w, b"fail") {
-        return Named::Is(Phase::Fail);
+        return Some(Phase::Fail);
     }
     if lines::same(w, b"end") {
-        return Named::Is(Phase::End);
+        return Some(Phase::End);
     }
-    Named::Not
+    None
 }
 
-// The transfer that ten columns and a phase say.
+// The transfer that ten columns and a phase say. A column is named by its place, as the line has it.
 fn state_by(ns: [u32; 10], p: Phase) -> Transfer
     ensures { result ≡ state_by ns p }
 {
@@ -144,39 +106,24 @@ fn state_by(ns: [u32; 10], p: Phase) -> Transfer
     }
 }
 
-fn unshaped() -> Line
-    ensures { result ≡ walk.unshaped }
+// The transfer that a line of the form says.
+fn read_line(line: &[u8]) -> Option<Transfer>
+    ensures { result ≡ line_read newest line.now }
 {
-    Line {
-        shaped: false,
-        state: Transfer::unstarted(),
-    }
-}
-
-fn read_line(line: &[u8]) -> Line
-    ensures { Reads newest line.now result }
-{
-    let columns = read_columns(line);
-    if !columns.good {
-        return unshaped();
-    }
-    let next = columns.next;
-    let named = phase_named(&line[next..]);
-    let Named::Is(p) = named else {
-        return unshaped();
-    };
+    let columns = read_columns(line)?;
+    let phase = phase_named(&line[columns.next..])?;
     let ns = columns.numbers;
-    Line {
-        shaped: (ns[0] == FORM) & (ns[8] <= 1),
-        state: state_by(ns, p),
+    if (ns[0] == FORM) & (ns[8] <= 1) {
+        return Some(state_by(ns, phase));
     }
+    None
 }
 
 fn unrestored(k: Refusal) -> Restored
     ensures { result ≡ saved.unrestored k }
 {
     Restored {
-        answer: Checked::Refused(k),
+        answer: Err(k),
         state: Transfer::unstarted(),
     }
 }
@@ -185,15 +132,13 @@ fn unrestored(k: Refusal) -> Restored
 pub fn restore(line: &[u8]) -> Restored
     ensures { result ≡ restore_of line.now }
 {
-    let read = read_line(line);
-    let t = read.state;
-    if read.shaped & t.keeps_rules(BOUND) {
-        return Restored {
-            answer: Checked::Passed,
+    match read_line(line) {
+        Some(t) if t.keeps_rules(BOUND) => Restored {
+            answer: Ok(()),
             state: t,
-        };
+        },
+        _ => unrestored(Refusal::Unlisted),
     }
-    unrestored(Refusal::Unlisted)
 }
 
 // Puts numbers into out from a place on, each with a tab behind it; answers the place behind them.
@@ -201,51 +146,30 @@ fn put_numbers(ns: &[u32], out: &mut [u8], at: usize) -> usize
     ensures { Put out.old at (tabbed ns.now) result out.new }
 {
     let mut next = at;
-    let mut i = 0;
-    while i < ns.len() {
-        next = lines::put_number(ns[i] as u64, out, next);
+    for n in ns {
+        next = lines::put_number(u64::from(*n), out, next);
         next = lines::put_byte(b'\t', out, next);
-        i += 1;
     }
     next
 }
 
-fn put_phase(p: Phase, out: &mut [u8], at: usize) -> usize
-    ensures { Put out.old at (phase_word p) result out.new }
+fn phase_word(p: Phase) -> &'static [u8]
+    ensures { result.now ≡ phase_word p }
 {
     match p {
-        Phase::New => {
-            return lines::put_bytes(b"new", out, at);
-        }
-        Phase::Run => {
-            return lines::put_bytes(b"run", out, at);
-        }
-        Phase::Drain => {
-            return lines::put_bytes(b"drain", out, at);
-        }
-        Phase::Done => {
-            return lines::put_bytes(b"done", out, at);
-        }
-        Phase::Fail => {
-            return lines::put_bytes(b"fail", out, at);
-        }
-        Phase::End => {
-            return lines::put_bytes(b"end", out, at);
-        }
+        Phase::New => b"new",
+        Phase::Run => b"run",
+        Phase::Drain => b"drain",
+        Phase::Done => b"done",
+        Phase::Fail => b"fail",
+        Phase::End => b"end",
     }
-}
-
-fn flag(t: bool) -> u32
-    ensures { result ≡ names.flag t }
-{
-    if t { 1 } else { 0 }
 }
 
 // Puts the line to the front of out; answers its length.
 fn put_line(t: Transfer, out: &mut [u8]) -> usize
     ensures { Put out.old 0 (line_of newest t) result out.new }
 {
-    let sent = flag(t.sent);
     let columns = [
         FORM,
         t.offset,
@@ -255,19 +179,18 @@ fn put_line(t: Transfer, out: &mut [u8]) -> usize
         t.read,
         t.balance,
         t.unanswered,
-        sent,
+        u32::from(t.sent),
         t.used,
     ];
     let next = put_numbers(&columns, out, 0);
-    let p = t.phase;
-    put_phase(p, out, next)
+    lines::put_bytes(phase_word(t.phase), out, next)
 }
 
 fn unsaved(k: Refusal) -> Saved
     ensures { result ≡ saved.unsaved k }
 {
     Saved {
-        answer: Checked::Refused(k),
+        answer: Err(k),
         length: 0,
     }
 }
@@ -284,7 +207,7 @@ pub fn save(t: Transfer, out: &mut [u8]) -> Saved
     }
     let length = put_line(t, out);
     Saved {
-        answer: Checked::Passed,
+        answer: Ok(()),
         length,
     }
 }

@@ -1,5 +1,7 @@
 -- What the DATA reader reads back out of the bytes of a next-frame call is the frame that a plain frame call sends: the call writes
 -- that frame, and reading undoes writing. Assumes nothing.
+use Rattle.ssp_frame.specs.declared.Frame.{Frame as FrameOf}
+use Rattle.std.specs.Prelude.{Ok as Data, Result}
 use Prim.Native.Nat.{ℕ, ◌<◌}
 use mathlib.Core.Bool.{Bool, true, false, not, cond}
 use mathlib.Core.List.{List, [], ◌∷◌, ◌++◌, map-append}
@@ -15,8 +17,6 @@ use Rattle.refusals.specs.declared.Refusal.{Refusal}
 use Rattle.refusals.proofs.Causes.{none_append, Verdict, stopped, passes, verdict, unrefused}
 use Rattle.ssp_frame.specs.Data.{frame_end, data_bytes, data_left, data_listed, read_data}
 use Rattle.ssp_frame.specs.declared.data.DataHead.{DataHead}
-use Rattle.ssp_frame.specs.declared.data.DataRead.{DataRead}
-use Rattle.ssp_frame.specs.declared.data.DataRead.TheVariants.{Frame as Data}
 use Rattle.ssp_frame.proofs.Fields.{listed_is}
 use Rattle.ssp_frame.proofs.Trip.{read_written, frame_long, body_held}
 use Rattle.transfer.specs.Steps.{frame_length, framed, refused, frame_causes, frame_step}
@@ -38,7 +38,7 @@ pub joined : (es : List (EntryOf Sent)) (fs : List Entry) (h : List (EntryOf Sen
 joined es fs h e = sym (map-append entry_of es h ∙ ap (λ (l : List Entry). l ++ frames h) e)
 
 -- an entry's frame goes through
-pub entry_frames : (c : plainly.Call) (f : Sent) (a : Answer) → frames (entries c f a) ≡ entries c (frame_of f) a
+pub entry_frames : (c : plainly.Call) (f : Sent) (a : Result Answer Refusal) → frames (entries c f a) ≡ entries c (frame_of f) a
 entry_frames c f a = by (is_refused a) c
   where
     by : (t : Bool) (c : plainly.Call) → frames (cond t [] (entry_for c f ∷ [])) ≡ cond t [] (entry_for c (frame_of f) ∷ [])
@@ -53,7 +53,7 @@ entry_frames c f a = by (is_refused a) c
     by false plainly.Call.cancel = refl
 
 -- the frame in what a call adds is the one that the call sent
-pub the_sent : {F : Type 0} (c : plainly.Call) (g f : F) (a : Answer) → entries c g a ≡ sent f ∷ [] → f ≡ g
+pub the_sent : {F : Type 0} (c : plainly.Call) (g f : F) (a : Result Answer Refusal) → entries c g a ≡ sent f ∷ [] → f ≡ g
 the_sent c g f a = by (is_refused a) c
   where
     by : (t : Bool) (c : plainly.Call) → cond t [] (entry_for c g ∷ []) ≡ sent f ∷ [] → f ≡ g
@@ -111,7 +111,7 @@ module _ (bound : ℕ) (s : Transfer) (destination source tag : ℕ) (body out :
             sends = sends;
             count = n;
             read = ap (λ (l : List ℕ). read_data (take (frame_end (length body)) l)) (v (List ℕ) (λ _. out) whole) ∙ ap read_data front ∙ read;
-            bytes = ap (written (length body)) (v (List ℕ) (λ _. out) whole) ∙ (λ i. found (read_data (front i)) (front i)) ∙ ap (λ (r : DataRead). found r frame) read ∙ (λ i. record { at = head.offset; len = length body; changing = head.changing; bytes = body_held head body i });
+            bytes = ap (written (length body)) (v (List ℕ) (λ _. out) whole) ∙ (λ i. found (read_data (front i)) (front i)) ∙ ap (λ (r : Result (FrameOf DataHead) Refusal). found r frame) read ∙ (λ i. record { at = head.offset; len = length body; changing = head.changing; bytes = body_held head body i });
           })
 
   -- what the history holds of the call

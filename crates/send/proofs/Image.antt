@@ -1,5 +1,7 @@
 -- The image theorem: what the depth computation lost. Each frame that went holds bytes of the image at its offset, frames are ACKed
 -- only if they went, and at "delivered" the ACKed frames cover the request. Assumes nothing.
+use Rattle.refusals.specs.declared.Refusal.{Refusal}
+use Rattle.std.specs.Prelude.{Ok, Result}
 use Prim.Native.Nat.{ℕ, ◌+◌, ◌-◌, ◌≤◌, ◌<◌}
 use mathlib.Core.Bool.{Bool, true, false, cond}
 use mathlib.Core.List.{List, [], ◌∷◌, ◌++◌, map, map-append}
@@ -140,7 +142,7 @@ module _ (image : List ℕ) where
   no_frame plainly.Call.nexus f n = tt
   no_frame plainly.Call.cancel f n = tt
 
-  perhaps : (c : plainly.Call) (f : Sent) (a : Answer) → Went Holds (entry_for c f ∷ []) → Went Holds (entries c f a)
+  perhaps : (c : plainly.Call) (f : Sent) (a : Result Answer Refusal) → Went Holds (entry_for c f ∷ []) → Went Holds (entries c f a)
   perhaps c f a w = by (is_refused a)
     where
       by : (t : Bool) → Went Holds (cond t [] (entry_for c f ∷ []))
@@ -163,7 +165,7 @@ module _ (image : List ℕ) where
   pub delivered : (bound : ℕ) (cs : List Call) (c : Call) → AllTyped cs → Typed c → AllFromImage image bound cs unstarted →
       let s = run bound cs unstarted in
       let h = history bound cs unstarted [] in
-      FromImage image c s → (step_of bound c s).answer ≡ Answer.Done → (x : ℕ) → s.offset ≤ x → x < end_of s → Shown image x (view (entries_of bound c s ++ h)).acked
+      FromImage image c s → (step_of bound c s).answer ≡ Ok Answer.Done → (x : ℕ) → s.offset ≤ x → x < end_of s → Shown image x (view (entries_of bound c s ++ h)).acked
   unfolding framed
   delivered bound cs c typed one given this done x low high =
       let s = run bound cs unstarted in

@@ -1,5 +1,7 @@
 -- The next-frame call checks what a frame call checks, and then its own two causes: so it goes on exactly where a frame call does
 -- and they pass. Assumes nothing.
+use Rattle.std.specs.Prelude.{Err, Ok, Result}
+use Rattle.std.specs.Result.{is_err}
 use Prim.Native.Nat.{ℕ, ◌≤◌, ◌<◌}
 use mathlib.Core.Bool.{Bool, true, false, not, cond, ◌&&◌}
 use mathlib.Core.List.{List, [], ◌∷◌}
@@ -11,8 +13,6 @@ use borrow.Author.Tests.{eqb-false, eq-eqb, le-leb, lt-ltb, not-false}
 use Rattle.laws.proofs.Bools.{never}
 use Rattle.refusals.specs.Causes.{Cause, ◌when◌, refuse, Wrote}
 use Rattle.refusals.specs.declared.Refusal.{Refusal}
-use Rattle.refusals.specs.declared.Written.{Written}
-use Rattle.refusals.specs.declared.Written.TheVariants.{Done, Refused}
 use Rattle.refusals.proofs.Causes.{refuse_append, Verdict, stopped, passes, verdict}
 use Rattle.refusals.proofs.Frames.{by_length, wrote_is}
 use Rattle.ssp_frame.specs.Data.{frame_end, data_left, data_sized, data_listed, write_causes}
@@ -28,6 +28,15 @@ use Rattle.send.specs.Send.{fitting, next_step, next_bytes, Went, is_sent, is_do
 -- the causes of its own, by their tests
 abbrev pub own : Bool → Bool → List Cause
 own listed fits = (Refusal.Unlisted when not listed) ∷ (Refusal.Length when not fits) ∷ []
+
+-- what std's test says of the writer's answer
+pub not_done : (w : Result (Unit {0}) Refusal) → is_err w ≡ true → is_done w ≡ false
+not_done (Ok u) e = absurd (never e)
+not_done (Err k) e = refl
+
+pub done : (w : Result (Unit {0}) Refusal) → is_err w ≡ false → is_done w ≡ true
+done (Ok u) e = refl
+done (Err k) e = absurd (never (sym e))
 
 -- a frame that is sent is 1 to 1,024 bytes long
 pub record Long (s : Transfer) : Type 0 where
@@ -96,7 +105,7 @@ module _ (bound : ℕ) (s : Transfer) (h : DataHead) (body out : List ℕ) where
     }
 
     -- data of the frame's length fits where the writer has room for it
-    module _ (listed : data_listed h ≡ true) (n : length body ≡ frame_length s) {w : Written} {after : List ℕ} (p : Wrote (write_causes h body out) (data_left h body out) out w after) where
+    module _ (listed : data_listed h ≡ true) (n : length body ≡ frame_length s) {w : Result (Unit {0}) Refusal} {after : List ℕ} (p : Wrote (write_causes h body out) (data_left h body out) out w after) where
       same : data_sized (length body) (length out) ≡ fitting s body out
       same =
           let l = long bound s is in
@@ -106,7 +115,7 @@ module _ (bound : ℕ) (s : Transfer) (h : DataHead) (body out : List ℕ) where
       by_room true e =
           let d = wrote_is (data_left h body out) out p e listed in
           (ap is_done d.0, d.1)
-      by_room false e = (ap is_done (p.answer ∙ sym (by_length Refused Done (data_listed h) e)), p.bytes ∙ sym (by_length (λ _. out) (data_left h body out) (data_listed h) e))
+      by_room false e = (ap is_done (p.answer ∙ sym (by_length Err (Ok tt) (data_listed h) e)), p.bytes ∙ sym (by_length (λ _. out) (data_left h body out) (data_listed h) e))
 
       pub no_room : is_done w ≡ false → Went bound s h body out (refused s Refusal.Length) after
       no_room e = at (data_sized (length body) (length out)) refl

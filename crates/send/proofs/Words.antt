@@ -1,5 +1,6 @@
 -- The words and columns against the history, over plain calls and next-frame calls mixed: for any calls of both kinds there are plain
 -- ones that leave the same state and frames, and a next-frame call that is taken is a frame call. Assumes nothing.
+use Rattle.std.specs.Prelude.{Err}
 use Prim.Native.Nat.{ℕ, ◌≤◌}
 use mathlib.Core.Bool.{true, false}
 use mathlib.Core.List.{List, [], ◌∷◌}
@@ -17,7 +18,6 @@ use Rattle.transfer.specs.History.{Frame, Entry, sent, entries, is_refused, view
 use Rattle.transfer.specs.Words.{Asked, unasked, last_end, word_of, word_by}
 use Rattle.transfer.specs.declared.Transfer.{Transfer}
 use Rattle.transfer.specs.declared.Stepped.{Stepped}
-use Rattle.transfer.specs.declared.Answer.{Answer}
 use Rattle.transfer.proofs.Invariant.{Inv}
 use Rattle.transfer.proofs.Balance.{at_first}
 use Rattle.transfer.proofs.Calls.{underway}
@@ -34,7 +34,7 @@ use Rattle.send.proofs.Demand.{all_sound}
 use Rattle.send.proofs.Plain.{frame_step_lem, as_plain}
 
 -- what holds of a frame call and of every refusal holds of a next-frame call
-module _ (bound : ℕ) (s : Transfer) (P : Stepped → Type 0) (goes : P (plainly.step_of bound plainly.Call.frame s)) (stops : (k : Refusal) → P (record { answer = Answer.Refused k; state = s })) where
+module _ (bound : ℕ) (s : Transfer) (P : Stepped → Type 0) (goes : P (plainly.step_of bound plainly.Call.frame s)) (stops : (k : Refusal) → P (record { answer = Err k; state = s })) where
   as_frame : (destination source tag : ℕ) (body out : List ℕ) → Typed (next destination source tag body out) → P (next_step bound s (head_of s destination source tag) body out)
   as_frame destination source tag body out typed = by (outcome bound s destination source tag body out typed)
     where
@@ -70,7 +70,7 @@ module _ (bound : ℕ) (s : Transfer) where
         (λ k e. impossible (sym e)) destination source tag body out typed
 
   -- refusal 3
-  pub three_either : keeps_rules bound s ≡ true → (c : Call) → ((step_of bound c s).answer ≡ Answer.Refused Refusal.Rules) ↔ OutOfRange (plain_of c)
+  pub three_either : keeps_rules bound s ≡ true → (c : Call) → ((step_of bound c s).answer ≡ Err Refusal.Rules) ↔ OutOfRange (plain_of c)
   unfolding next_step
   three_either good (plain c) = three bound s good c
   three_either good (next destination source tag body out) =
@@ -113,5 +113,5 @@ module _ (bound : ℕ) (cs : List Call) (typed : AllTyped cs) where
         says_either bound (run bound cs unstarted) (frames (history bound cs unstarted [])) holds tally_is c one e
         ∙ ap (λ (a : Asked). word_by a (frames (history bound cs unstarted [])) (plain_of c)) asked_is
 
-    pub never_three : ((step_of bound c (run bound cs unstarted)).answer ≡ Answer.Refused Refusal.Rules) ↔ OutOfRange (plain_of c)
+    pub never_three : ((step_of bound c (run bound cs unstarted)).answer ≡ Err Refusal.Rules) ↔ OutOfRange (plain_of c)
     never_three = three_either bound (run bound cs unstarted) keeps c

@@ -1,10 +1,10 @@
 -- The history of a transfer whose frames are written: of a next-frame call it holds what the DATA reader reads back out of the bytes
 -- that the call wrote, and nothing of the transfer's own word. Assumes nothing.
-use Rattle.std.specs.Prelude.{ℕ, ◌+◌, ◌-◌, ◌≤◌, ◌<◌, List, [], ◌∷◌, ◌++◌, map, ◌⊎◌, ◌≡◌, length, get_or, take, drop}
+use Rattle.ssp_frame.specs.declared.data.DataHead.{DataHead}
+use Rattle.ssp_frame.specs.declared.Frame.{Frame as FrameOf}
+use Rattle.refusals.specs.declared.Refusal.{Refusal}
+use Rattle.std.specs.Prelude.{ℕ, ◌+◌, ◌-◌, ◌≤◌, ◌<◌, List, [], ◌∷◌, ◌++◌, map, ◌⊎◌, ◌≡◌, length, get_or, take, drop, Err as NotData, Ok as Data, Result}
 use Rattle.ssp_frame.specs.Data.{frame_end, read_data}
-use Rattle.ssp_frame.specs.declared.data.DataFrame.{DataFrame}
-use Rattle.ssp_frame.specs.declared.data.DataRead.{DataRead}
-use Rattle.ssp_frame.specs.declared.data.DataRead.TheVariants.{Frame as Data, Refused as NotData}
 use Rattle.transfer.specs.Calls as plainly
 use Rattle.transfer.specs.Log.{next_frame}
 use Rattle.transfer.specs.History.{Frame, EntryOf, started, sent, acked, nacked, timed_out, was_lost, ended, Entry, entries}
@@ -21,7 +21,7 @@ pub record Sent : Type 0 where
   pub bytes : List ℕ
 
 -- what the DATA reader finds in the bytes of a frame
-abbrev pub found : DataRead → List ℕ → Sent
+abbrev pub found : Result (FrameOf DataHead) Refusal → List ℕ → Sent
 found (Data f) frame = record { at = f.head.offset; len = f.length; changing = f.head.changing; bytes = take f.length (drop 24 frame) }
 found (NotData k) frame = record { at = 0; len = 0; changing = 0; bytes = [] }
 
@@ -36,7 +36,7 @@ output_of bound (next destination source tag body out) s = next_bytes bound s (h
 
 -- the DATA reader takes the frame of n bytes of data at the front of the output, and finds in it these addresses, tag and offset
 pub record Addressed (out : List ℕ) (n destination source tag offset : ℕ) : Type 0 where
-  pub frame : DataFrame
+  pub frame : FrameOf DataHead
   pub taken : read_data (take (frame_end n) out) ≡ Data frame
   pub destined : frame.head.destination ≡ destination
   pub sourced : frame.head.source ≡ source

@@ -1,5 +1,5 @@
 -- Document 01, 'Read transfer': the next-frame call. Assumes nothing.
-use Rattle.std.specs.Prelude.{ℕ, Bool, true, false, not, cond, ◌&&◌, List, [], ◌∷◌, ◌++◌, ◌≡◌, eqb, ltb, leb, length}
+use Rattle.std.specs.Prelude.{ℕ, Bool, true, false, not, cond, ◌&&◌, List, [], ◌∷◌, ◌++◌, ◌≡◌, eqb, ltb, leb, length, Err, Ok, Result}
 use Rattle.refusals.specs.Causes.{Cause, ◌when◌, refuse}
 use Rattle.refusals.specs.declared.Refusal.{Refusal}
 use Rattle.ssp_frame.specs.Data.{frame_end, data_left, data_listed}
@@ -8,8 +8,6 @@ use Rattle.transfer.specs.Steps.{frame_length, framed, refused, frame_causes}
 use Rattle.transfer.specs.declared.Transfer.{Transfer}
 use Rattle.transfer.specs.declared.Answer.{Answer}
 use Rattle.transfer.specs.declared.Stepped.{Stepped}
-use Rattle.refusals.specs.declared.Written.{Written}
-use Rattle.refusals.specs.declared.Written.TheVariants.{Done, Refused}
 
 -- 01 DATA.1
 abbrev pub changing_of : Transfer → ℕ
@@ -39,16 +37,16 @@ pub record Went (bound : ℕ) (s : Transfer) (h : DataHead) (body before : List 
   pub step : r ≡ next_step bound s h body before
   pub bytes : after ≡ next_bytes bound s h body before
 
-abbrev pub is_sent : Answer → Bool
-is_sent Answer.Ok = false
-is_sent Answer.Sent = true
-is_sent Answer.Drain = false
-is_sent Answer.Retry = false
-is_sent Answer.Done = false
-is_sent Answer.Fail = false
-is_sent Answer.End = false
-is_sent (Answer.Refused k) = false
+abbrev pub is_sent : Result Answer Refusal → Bool
+is_sent (Ok Answer.Ok) = false
+is_sent (Ok Answer.Sent) = true
+is_sent (Ok Answer.Drain) = false
+is_sent (Ok Answer.Retry) = false
+is_sent (Ok Answer.Done) = false
+is_sent (Ok Answer.Fail) = false
+is_sent (Ok Answer.End) = false
+is_sent (Err k) = false
 
-abbrev pub is_done : Written → Bool
-is_done Done = true
-is_done (Refused k) = false
+abbrev pub is_done : Result (Unit {0}) Refusal → Bool
+is_done (Ok tt) = true
+is_done (Err k) = false

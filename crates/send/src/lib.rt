@@ -3,9 +3,9 @@
 
 ghost use Rattle.std.specs.Prelude.{◌≡◌};
 ghost use Rattle.transfer.specs.Steps.{limit};
-ghost use Rattle.send.specs.Send.{changing_of, head_of, is_sent, is_done, Went};
+ghost use Rattle.send.specs.Send.{changing_of, head_of, is_sent, Went};
 
-use refusals::{Refusal, Written};
+use refusals::Refusal;
 use ssp_frame::data;
 use ssp_frame::data::DataHead;
 use transfer::{Answer, Stepped, Transfer};
@@ -13,12 +13,10 @@ use transfer::{Answer, Stepped, Transfer};
 fn changing(s: Transfer) -> u8
     ensures { result ≡ changing_of s }
 {
-    if (0 < s.used) & !s.sent {
-        return 1;
-    }
-    0
+    u8::from((0 < s.used) & !s.sent)
 }
 
+// Three numbers and no struct for whom the frame goes to: C's own parameters, which transfer_lent hands on and this makes a head of.
 fn head(s: Transfer, destination: u32, source: u32, tag: u16) -> DataHead
     ensures { result ≡ head_of s destination source tag }
 {
@@ -31,28 +29,11 @@ fn head(s: Transfer, destination: u32, source: u32, tag: u16) -> DataHead
     }
 }
 
-fn is_sent(a: Answer) -> bool
+// Of a transfer's answer; take has the same of a write's and of a reply's, and a trait for the three would be longer than they are.
+fn is_sent(a: Result<Answer, Refusal>) -> bool
     ensures { result ≡ is_sent a }
 {
-    match a {
-        Answer::Sent => true,
-        Answer::Ok => false,
-        Answer::Drain => false,
-        Answer::Retry => false,
-        Answer::Done => false,
-        Answer::Fail => false,
-        Answer::End => false,
-        Answer::Refused(_) => false,
-    }
-}
-
-fn is_done(w: Written) -> bool
-    ensures { result ≡ is_done w }
-{
-    match w {
-        Written::Done => true,
-        Written::Refused(_) => false,
-    }
+    matches!(a, Ok(Answer::Sent))
 }
 
 // The next frame, with the data in body, to the front of out; the bytes past it stay, and on a refusal all of them.
@@ -67,8 +48,7 @@ pub fn next_frame(
     ensures { Went limit s (head_of s destination source tag) body.now out.old result out.new }
 {
     let stepped = s.frame();
-    let answer = stepped.answer;
-    if !is_sent(answer) {
+    if !is_sent(stepped.answer) {
         return stepped;
     }
     let h = head(s, destination, source, tag);
@@ -78,8 +58,7 @@ pub fn next_frame(
     if body.len() != s.frame_length() as usize {
         return s.refused(Refusal::Length);
     }
-    let written = data::write_data(h, body, out);
-    if !is_done(written) {
+    if data::write_data(h, body, out).is_err() {
         return s.refused(Refusal::Length);
     }
     stepped

@@ -1,23 +1,20 @@
 -- C's numbers keep their places: those of a typed frame of each kind stand where document 01 lays them, and come back in their order.
 -- Assumes nothing.
+use Rattle.ssp_frame.specs.declared.response.ResponseHead.{ResponseHead}
+use Rattle.ssp_frame.specs.declared.data_out.OutHead.{OutHead}
+use Rattle.ssp_frame.specs.declared.data.DataHead.{DataHead}
+use Rattle.ssp_frame.specs.declared.Frame.{Frame}
+use Rattle.std.specs.Prelude.{Ok as Data, Ok as Open, Ok as Out, Ok as Response, Ok as Xfer}
 use mathlib.Core.List.{List, [], ◌∷◌}
 use mathlib.Core.Path.{◌≡◌, refl}
 use Prim.Native.Nat.{ℕ}
 use Rattle.open_frame.specs.Open.{open_bytes, read_open}
 use Rattle.open_frame.specs.declared.OpenFrame.{OpenFrame}
-use Rattle.open_frame.specs.declared.OpenRead.TheVariants.{Frame as Open}
 use Rattle.ssp_frame.specs.Data.{data_bytes, read_data}
-use Rattle.ssp_frame.specs.declared.data.DataFrame.{DataFrame}
-use Rattle.ssp_frame.specs.declared.data.DataRead.TheVariants.{Frame as Data}
 use Rattle.ssp_frame.specs.Xfer.{xfer_bytes, read_xfer_rdy}
 use Rattle.ssp_frame.specs.declared.xfer_rdy.XferHead.{XferHead}
-use Rattle.ssp_frame.specs.declared.xfer_rdy.XferRead.TheVariants.{Frame as Xfer}
 use Rattle.ssp_frame.specs.Out.{out_bytes, read_data_out}
-use Rattle.ssp_frame.specs.declared.data_out.OutFrame.{OutFrame}
-use Rattle.ssp_frame.specs.declared.data_out.OutRead.TheVariants.{Frame as Out}
 use Rattle.ssp_frame.specs.Response.{response_bytes, read_response}
-use Rattle.ssp_frame.specs.declared.response.ResponseFrame.{ResponseFrame}
-use Rattle.ssp_frame.specs.declared.response.ResponseRead.TheVariants.{Frame as Response}
 use Rattle.ssp_frame.specs.Typed.{xfer_typed, out_body, out_typed, sense_body, sense_typed, response_body, response_typed}
 use Rattle.ssp_frame.proofs.Laid as ssp
 use Rattle.sonerwal.specs.Face.{open9, data5, data6, xfer8, out6, out7, response6, response7}
@@ -62,14 +59,14 @@ response_found = ssp.response_found
 abbrev pub nine : OpenFrame → List ℕ
 nine f = f.head.initiator ∷ f.head.protocol ∷ f.head.features ∷ f.head.rate ∷ f.head.tag ∷ f.head.destination ∷ f.head.source ∷ f.pbc.0 ∷ f.awt.0 ∷ []
 
-abbrev pub six : DataFrame → List ℕ
+abbrev pub six : Frame DataHead → List ℕ
 six f = f.head.destination ∷ f.head.source ∷ f.head.changing ∷ f.head.tag ∷ f.head.offset ∷ f.length ∷ []
 
 abbrev pub eight : XferHead → List ℕ
 eight h = h.destination ∷ h.source ∷ h.retransmit ∷ h.retry ∷ h.tag ∷ h.transfer ∷ h.offset ∷ h.length ∷ []
 
-abbrev pub out_seven : OutFrame → List ℕ
+abbrev pub out_seven : Frame OutHead → List ℕ
 out_seven f = f.head.destination ∷ f.head.source ∷ f.head.changing ∷ f.head.tag ∷ f.head.transfer ∷ f.head.offset ∷ f.length ∷ []
 
-abbrev pub response_seven : ResponseFrame → List ℕ
+abbrev pub response_seven : Frame ResponseHead → List ℕ
 response_seven f = f.head.destination ∷ f.head.source ∷ f.head.retransmit ∷ f.head.tag ∷ f.head.present ∷ f.head.status ∷ f.length ∷ []

@@ -1,4 +1,5 @@
 -- What a call from C was given and lent, and what it answers and leaves. Assumes nothing.
+use Rattle.ssp_frame.specs.declared.Frame.{Frame}
 use Rattle.std.specs.Prelude.{◌≡◌, List, ℕ}
 use denote.MutBor.{MutBor}
 use denote.Triple.Both.{Both}
@@ -10,15 +11,12 @@ use Rattle.open_frame.specs.Priority.{higher_than}
 use Rattle.open_frame.specs.declared.OpenFrame.{OpenFrame}
 use Rattle.ssp_frame.specs.Data.{data_of, data_left, read_causes as data_read_causes, write_causes as data_write_causes}
 use Rattle.ssp_frame.specs.declared.data.DataHead.{DataHead}
-use Rattle.ssp_frame.specs.declared.data.DataFrame.{DataFrame}
 use Rattle.ssp_frame.specs.Xfer.{xfer_of, xfer_left, read_causes as xfer_read_causes, write_causes as xfer_write_causes}
 use Rattle.ssp_frame.specs.declared.xfer_rdy.XferHead.{XferHead}
 use Rattle.ssp_frame.specs.Out.{out_of, out_left, read_causes as out_read_causes, write_causes as out_write_causes}
 use Rattle.ssp_frame.specs.declared.data_out.OutHead.{OutHead}
-use Rattle.ssp_frame.specs.declared.data_out.OutFrame.{OutFrame}
 use Rattle.ssp_frame.specs.Response.{response_of, response_left, read_causes as response_read_causes, write_causes as response_write_causes}
 use Rattle.ssp_frame.specs.declared.response.ResponseHead.{ResponseHead}
-use Rattle.ssp_frame.specs.declared.response.ResponseFrame.{ResponseFrame}
 
 -- ---- numbers in the order of include/sonerwal.h
 
@@ -38,7 +36,7 @@ open9 initiator protocol features rate tag destination source pbc awt = record {
 abbrev pub data5 : ℕ → ℕ → ℕ → ℕ → ℕ → DataHead
 data5 destination source changing tag offset = record { destination = destination; source = source; changing = changing; tag = tag; offset = offset }
 
-abbrev pub data6 : ℕ → ℕ → ℕ → ℕ → ℕ → ℕ → DataFrame
+abbrev pub data6 : ℕ → ℕ → ℕ → ℕ → ℕ → ℕ → Frame DataHead
 data6 destination source changing tag offset length = record { head = data5 destination source changing tag offset; length = length }
 
 -- eight as an XFER_RDY
@@ -58,14 +56,14 @@ xfer8 destination source retransmit retry tag transfer offset length = record {
 abbrev pub out6 : ℕ → ℕ → ℕ → ℕ → ℕ → ℕ → OutHead
 out6 destination source changing tag transfer offset = record { destination = destination; source = source; changing = changing; tag = tag; transfer = transfer; offset = offset }
 
-abbrev pub out7 : ℕ → ℕ → ℕ → ℕ → ℕ → ℕ → ℕ → OutFrame
+abbrev pub out7 : ℕ → ℕ → ℕ → ℕ → ℕ → ℕ → ℕ → Frame OutHead
 out7 destination source changing tag transfer offset length = record { head = out6 destination source changing tag transfer offset; length = length }
 
 -- six as the head of a RESPONSE, and with its data's length seven
 abbrev pub response6 : ℕ → ℕ → ℕ → ℕ → ℕ → ℕ → ResponseHead
 response6 destination source retransmit tag present status = record { destination = destination; source = source; retransmit = retransmit; tag = tag; present = present; status = status }
 
-abbrev pub response7 : ℕ → ℕ → ℕ → ℕ → ℕ → ℕ → ℕ → ResponseFrame
+abbrev pub response7 : ℕ → ℕ → ℕ → ℕ → ℕ → ℕ → ℕ → Frame ResponseHead
 response7 destination source retransmit tag present status length = record { head = response6 destination source retransmit tag present status; length = length }
 
 -- ---- what a call was lent and left
@@ -87,16 +85,16 @@ Fields F = (Lent ℕ → ℕ) → F
 abbrev pub open_lent : Lent ℕ → Lent ℕ → Lent ℕ → Lent ℕ → Lent ℕ → Lent ℕ → Lent ℕ → Lent ℕ → Lent ℕ → Fields OpenFrame
 open_lent initiator protocol features rate tag destination source pbc awt at = open9 (at initiator) (at protocol) (at features) (at rate) (at tag) (at destination) (at source) (at pbc) (at awt)
 
-abbrev pub data_lent : Lent ℕ → Lent ℕ → Lent ℕ → Lent ℕ → Lent ℕ → Lent ℕ → Fields DataFrame
+abbrev pub data_lent : Lent ℕ → Lent ℕ → Lent ℕ → Lent ℕ → Lent ℕ → Lent ℕ → Fields (Frame DataHead)
 data_lent destination source changing tag offset length at = data6 (at destination) (at source) (at changing) (at tag) (at offset) (at length)
 
 abbrev pub xfer_lent : Lent ℕ → Lent ℕ → Lent ℕ → Lent ℕ → Lent ℕ → Lent ℕ → Lent ℕ → Lent ℕ → Fields XferHead
 xfer_lent destination source retransmit retry tag transfer offset length at = xfer8 (at destination) (at source) (at retransmit) (at retry) (at tag) (at transfer) (at offset) (at length)
 
-abbrev pub out_lent : Lent ℕ → Lent ℕ → Lent ℕ → Lent ℕ → Lent ℕ → Lent ℕ → Lent ℕ → Fields OutFrame
+abbrev pub out_lent : Lent ℕ → Lent ℕ → Lent ℕ → Lent ℕ → Lent ℕ → Lent ℕ → Lent ℕ → Fields (Frame OutHead)
 out_lent destination source changing tag transfer offset length at = out7 (at destination) (at source) (at changing) (at tag) (at transfer) (at offset) (at length)
 
-abbrev pub response_lent : Lent ℕ → Lent ℕ → Lent ℕ → Lent ℕ → Lent ℕ → Lent ℕ → Lent ℕ → Fields ResponseFrame
+abbrev pub response_lent : Lent ℕ → Lent ℕ → Lent ℕ → Lent ℕ → Lent ℕ → Lent ℕ → Lent ℕ → Fields (Frame ResponseHead)
 response_lent destination source retransmit tag present status length at = response7 (at destination) (at source) (at retransmit) (at tag) (at present) (at status) (at length)
 
 -- a reader's call with an answer of A: the bytes that it reads, and the fields that it is lent and leaves
@@ -150,7 +148,7 @@ OpenReads c = Called (open_read_causes c.frame) (frame_of c.frame) c.lent c.answ
 abbrev pub OpenWrites : Write ℕ OpenFrame → Type 0
 OpenWrites c = Called (open_write_causes c.given c.lent) (open_bytes c.given) c.lent c.answer c.left
 
-abbrev pub DataReads : Read ℕ DataFrame → Type 0
+abbrev pub DataReads : Read ℕ (Frame DataHead) → Type 0
 DataReads c = Called (data_read_causes c.frame) (data_of c.frame) c.lent c.answer c.left
 
 abbrev pub DataWrites : Write ℕ DataGiven → Type 0
@@ -162,13 +160,13 @@ XferReads c = Called (xfer_read_causes c.frame) (xfer_of c.frame) c.lent c.answe
 abbrev pub XferWrites : Write ℕ XferHead → Type 0
 XferWrites c = Called (xfer_write_causes c.given c.lent) (xfer_left c.given c.lent) c.lent c.answer c.left
 
-abbrev pub OutReads : Read ℕ OutFrame → Type 0
+abbrev pub OutReads : Read ℕ (Frame OutHead) → Type 0
 OutReads c = Called (out_read_causes c.frame) (out_of c.frame) c.lent c.answer c.left
 
 abbrev pub OutWrites : Write ℕ (Given OutHead) → Type 0
 OutWrites c = Called (out_write_causes c.given.head c.given.body c.lent) (out_left c.given.head c.given.body c.lent) c.lent c.answer c.left
 
-abbrev pub ResponseReads : Read ℕ ResponseFrame → Type 0
+abbrev pub ResponseReads : Read ℕ (Frame ResponseHead) → Type 0
 ResponseReads c = Called (response_read_causes c.frame) (response_of c.frame) c.lent c.answer c.left
 
 abbrev pub ResponseWrites : Write ℕ (Given ResponseHead) → Type 0

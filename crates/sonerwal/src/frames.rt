@@ -6,11 +6,11 @@ ghost use Rattle.open_frame.specs.Wait.{wait_value};
 ghost use Rattle.sonerwal.specs.Face.{open9, open_lent, data_lent, data_given, reading, writing, OpenReads, OpenWrites, DataReads, DataWrites, crossing, open_higher};
 ghost use Rattle.sonerwal.specs.Face.{xfer8, xfer_lent, XferReads, XferWrites, out_lent, out_given, OutReads, OutWrites, response_lent, response_given, ResponseReads, ResponseWrites};
 
-use open_frame::{Awt, Head, OpenFrame, OpenRead, Pbc};
-use ssp_frame::data::{DataHead, DataRead};
-use ssp_frame::data_out::{OutHead, OutRead};
-use ssp_frame::response::{ResponseHead, ResponseRead};
-use ssp_frame::xfer_rdy::{XferHead, XferRead};
+use open_frame::{Awt, Head, OpenFrame, Pbc};
+use ssp_frame::data::DataHead;
+use ssp_frame::data_out::OutHead;
+use ssp_frame::response::ResponseHead;
+use ssp_frame::xfer_rdy::XferHead;
 use ssp_frame::{data, data_out, response, xfer_rdy};
 
 // 01 FORM.3: extern "C" functions over byte slices and numbers for OPEN and DATA frames.
@@ -31,7 +31,7 @@ pub extern "C" fn sonerwal_open_read(
     ensures { OpenReads (reading frame.now (open_lent initiator protocol features rate tag destination source pbc awt) result) }
 {
     match open_frame::read_open(frame) {
-        OpenRead::Frame(f) => {
+        Ok(f) => {
             *initiator = f.head.initiator;
             *protocol = f.head.protocol;
             *features = f.head.features as u8;
@@ -43,7 +43,7 @@ pub extern "C" fn sonerwal_open_read(
             *awt = f.awt.0;
             0
         }
-        OpenRead::Refused(k) => refusals::number(k),
+        Err(k) => u8::from(k),
     }
 }
 
@@ -93,7 +93,7 @@ pub extern "C" fn sonerwal_data_read(
     ensures { DataReads (reading frame.now (data_lent destination source changing tag offset length) result) }
 {
     match data::read_data(frame) {
-        DataRead::Frame(f) => {
+        Ok(f) => {
             *destination = f.head.destination;
             *source = f.head.source;
             *changing = f.head.changing;
@@ -102,7 +102,7 @@ pub extern "C" fn sonerwal_data_read(
             *length = f.length;
             0
         }
-        DataRead::Refused(k) => refusals::number(k),
+        Err(k) => u8::from(k),
     }
 }
 
@@ -145,7 +145,7 @@ pub extern "C" fn sonerwal_xfer_rdy_read(
     ensures { XferReads (reading frame.now (xfer_lent destination source retransmit retry tag transfer offset length) result) }
 {
     match xfer_rdy::read_xfer_rdy(frame) {
-        XferRead::Frame(h) => {
+        Ok(h) => {
             *destination = h.destination;
             *source = h.source;
             *retransmit = h.retransmit;
@@ -156,7 +156,7 @@ pub extern "C" fn sonerwal_xfer_rdy_read(
             *length = h.length;
             0
         }
-        XferRead::Refused(k) => refusals::number(k),
+        Err(k) => u8::from(k),
     }
 }
 
@@ -203,7 +203,7 @@ pub extern "C" fn sonerwal_data_out_read(
     ensures { OutReads (reading frame.now (out_lent destination source changing tag transfer offset length) result) }
 {
     match data_out::read_data_out(frame) {
-        OutRead::Frame(f) => {
+        Ok(f) => {
             *destination = f.head.destination;
             *source = f.head.source;
             *changing = f.head.changing;
@@ -213,7 +213,7 @@ pub extern "C" fn sonerwal_data_out_read(
             *length = f.length;
             0
         }
-        OutRead::Refused(k) => refusals::number(k),
+        Err(k) => u8::from(k),
     }
 }
 
@@ -257,7 +257,7 @@ pub extern "C" fn sonerwal_response_read(
     ensures { ResponseReads (reading frame.now (response_lent destination source retransmit tag present status length) result) }
 {
     match response::read_response(frame) {
-        ResponseRead::Frame(f) => {
+        Ok(f) => {
             *destination = f.head.destination;
             *source = f.head.source;
             *retransmit = f.head.retransmit;
@@ -267,7 +267,7 @@ pub extern "C" fn sonerwal_response_read(
             *length = f.length;
             0
         }
-        ResponseRead::Refused(k) => refusals::number(k),
+        Err(k) => u8::from(k),
     }
 }
 
@@ -312,13 +312,8 @@ fn crossing(wait: u16, source: u64) -> OpenFrame
 {
     OpenFrame {
         head: Head {
-            initiator: 0,
-            protocol: 0,
-            features: 0,
-            rate: 0,
-            tag: 0,
-            destination: 0,
             source,
+            ..Head::default()
         },
         pbc: Pbc(0),
         awt: Awt(wait),
@@ -337,9 +332,5 @@ fn higher(awt: u16, source: u64, waited: u16, peer: u64) -> bool
 pub extern "C" fn sonerwal_open_higher(awt: u16, source: u64, waited: u16, peer: u64) -> u8
     ensures { result ≡ open_higher awt source waited peer }
 {
-    if higher(awt, source, waited, peer) {
-        1
-    } else {
-        0
-    }
+    u8::from(higher(awt, source, waited, peer))
 }

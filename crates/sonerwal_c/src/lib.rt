@@ -1,5 +1,5 @@
 // The archive that C links: each call that include/sonerwal.h declares, exported under its name. An export calls the function of the crate sonerwal
-// and promises what that promises.
+// and promises what that promises. Each stands twice, since a crate is a library or an archive, and a test, a claim or another crate can stand on the library alone.
 #![tactic(auto)]
 
 ghost use Rattle.std.specs.Prelude.{◌≡◌};

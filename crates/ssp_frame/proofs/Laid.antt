@@ -1,5 +1,6 @@
 -- Each field of a write's frames at its own place: only these facts notice two fields or bits that reader, writer and definition
 -- exchange alike. Assumes nothing.
+use Rattle.std.specs.Prelude.{Ok as Out, Ok as Response, Ok as Xfer}
 use mathlib.Core.Path.{◌≡◌, refl}
 use Prim.Native.Nat.{ℕ}
 use Rattle.ssp_frame.specs.Xfer.{xfer_bytes, read_xfer_rdy}
@@ -7,11 +8,8 @@ use Rattle.ssp_frame.specs.Out.{out_bytes, read_data_out}
 use Rattle.ssp_frame.specs.Response.{response_bytes, read_response}
 use Rattle.ssp_frame.specs.Typed.{xfer_typed, out_body, out_typed, sense_body, sense_typed, response_body, response_typed}
 use Rattle.ssp_frame.specs.declared.xfer_rdy.XferHead.{XferHead}
-use Rattle.ssp_frame.specs.declared.xfer_rdy.XferRead.TheVariants.{Frame as Xfer}
 use Rattle.ssp_frame.specs.declared.data_out.OutHead.{OutHead}
-use Rattle.ssp_frame.specs.declared.data_out.OutRead.TheVariants.{Frame as Out}
 use Rattle.ssp_frame.specs.declared.response.ResponseHead.{ResponseHead}
-use Rattle.ssp_frame.specs.declared.response.ResponseRead.TheVariants.{Frame as Response}
 
 -- the heads that the typed frames have
 abbrev pub xfer_with : ℕ → ℕ → XferHead

@@ -1,5 +1,7 @@
 -- A frame of data out that was written is read back, and one that was read is written back byte for byte: the header's fields, the
 -- data and the fill are all that it has. Assumes nothing.
+use Rattle.ssp_frame.specs.declared.Frame.{Frame}
+use Rattle.std.specs.Prelude.{Err, Ok}
 use mathlib.Core.Path.{◌≡◌, refl, ◌∙◌, ap, sym, subst}
 use mathlib.Core.Bool.{true, ◌&&◌}
 use mathlib.Core.List.{List, [], ◌++◌}
@@ -18,8 +20,6 @@ use Rattle.ssp_frame.specs.Data.{fill_of, padded, frame_end, frame_sized, rest_z
 use Rattle.ssp_frame.specs.Out.{out_header, out_bytes, Typed, out_kind, out_of, read_data_out}
 use Rattle.ssp_frame.specs.declared.header.Header.{Header}
 use Rattle.ssp_frame.specs.declared.data_out.OutHead.{OutHead}
-use Rattle.ssp_frame.specs.declared.data_out.OutFrame.{OutFrame}
-use Rattle.ssp_frame.specs.declared.data_out.OutRead.TheVariants.{Frame, Refused}
 use Rattle.ssp_frame.proofs.Fields.{Sized, sized, is_sized}
 use Rattle.ssp_frame.proofs.OutFields.{Listed, Laid, laid}
 use Rattle.ssp_frame.proofs.Heads.{Widths}
@@ -49,7 +49,7 @@ pub body_held : (h : OutHead) (body : List ℕ) → take (length body) (drop 24 
 body_held h body = take-append_seam body (replicate (fill_of (length body)) 0)
 
 -- ROUND TRIP 1: reading what was written
-pub read_written : (h : OutHead) (body : List ℕ) → Listed h → Typed h → 0 < length body → length body ≤ 1024 → read_data_out (out_bytes h body) ≡ Frame (record { head = h; length = length body })
+pub read_written : (h : OutHead) (body : List ℕ) → Listed h → Typed h → 0 < length body → length body ≤ 1024 → read_data_out (out_bytes h body) ≡ Ok (record { head = h; length = length body })
 unfolding read_data_out
 read_written h body l t some few =
     let n = length body in
@@ -59,45 +59,45 @@ read_written h body l t some few =
     let size : frame_sized (length s) ≡ true = is_sized (length s) (record { least = omega (arith, long); most = omega (arith, long); four = omega (arith, long) }) in
     let kind : out_kind (header_of s) ≡ true = ap out_kind m.back ∙ lt-ltb h.changing 2 l.changing in
     let count : length s - 24 - (header_of s).fill ≡ n = omega (arith, long, ap (λ (g : Header). g.fill) m.back) in
-    sym (by_none Refused (Frame (out_of s)) size (and_true (and_true m.blank m.full) kind)) ∙ (λ i. Frame (record { head = head_of (m.back i); length = count i }))
+    sym (by_none Err (Ok (out_of s)) size (and_true (and_true m.blank m.full) kind)) ∙ (λ i. Ok (record { head = head_of (m.back i); length = count i }))
 
 -- what a reader's frame says of the buffer
-pub record Found (s : List ℕ) (f : OutFrame) : Type 0 where
+pub record Found (s : List ℕ) (f : Frame OutHead) : Type 0 where
   pub size : Sized (length s)
   pub header : Laid s
   pub same : out_of s ≡ f
 
-apart : (f : OutFrame) (k : Refusal) → Refused k ≡ Frame f → ⊥
+apart : (f : Frame OutHead) (k : Refusal) → Err k ≡ Ok f → ⊥
 apart f k e = let z : ◌≡◌ {A = ℕ} 0 1 = cc in omega arith
 
-pub found : (s : List ℕ) (f : OutFrame) → read_data_out s ≡ Frame f → Found s f
+pub found : (s : List ℕ) (f : Frame OutHead) → read_data_out s ≡ Ok f → Found s f
 unfolding read_data_out
 found s f e =
-    let p = passed Refused (Frame (out_of s)) (Frame f) (apart f) (frame_sized (length s)) (rest_zero s && out_kind (header_of s)) e in
+    let p = passed Err (Ok (out_of s)) (Ok f) (apart f) (frame_sized (length s)) (rest_zero s && out_kind (header_of s)) e in
     record { size = sized (length s) p.0; header = (laid s).0 p.1.0; same = cc p.1.1 }
 
 -- and the other way round
-pub is_found : (s : List ℕ) → Sized (length s) → Laid s → read_data_out s ≡ Frame (out_of s)
+pub is_found : (s : List ℕ) → Sized (length s) → Laid s → read_data_out s ≡ Ok (out_of s)
 unfolding read_data_out
-is_found s z l = sym (by_none Refused (Frame (out_of s)) (is_sized (length s) z) ((laid s).1 l))
+is_found s z l = sym (by_none Err (Ok (out_of s)) (is_sized (length s) z) ((laid s).1 l))
 
 -- its parts
-ends : (s : List ℕ) (f : OutFrame) → Found s f → Ends 24 f.length (get_or s 11 0) s
+ends : (s : List ℕ) (f : Frame OutHead) → Found s f → Ends 24 f.length (get_or s 11 0) s
 ends s f r =
     let z = r.size in
     let few = r.header.rest.fill in
-    let is : length s - 24 - get_or s 11 0 ≡ f.length = ap (λ (d : OutFrame). d.length) r.same in
+    let is : length s - 24 - get_or s 11 0 ≡ f.length = ap (λ (d : Frame OutHead). d.length) r.same in
     record { front = refl; four = z.four; few = few; end = omega (arith, is, few, z.least) }
 
 -- what a reader's frame says of its fields and lengths
-pub record Fits (s : List ℕ) (f : OutFrame) : Type 0 where
+pub record Fits (s : List ℕ) (f : Frame OutHead) : Type 0 where
   pub count : length (take f.length (drop 24 s)) ≡ f.length
   pub end : frame_end f.length ≡ length s
   pub least : 0 < f.length
   pub most : f.length ≤ 1024
   pub listed : Listed f.head
 
-pub fits : (s : List ℕ) (f : OutFrame) → ((i : ℕ) → get_or s i 0 < 256) → read_data_out s ≡ Frame f → Fits s f
+pub fits : (s : List ℕ) (f : Frame OutHead) → ((i : ℕ) → get_or s i 0 < 256) → read_data_out s ≡ Ok f → Fits s f
 fits s f small e =
     let r = found s f e in
     let z = r.size in
@@ -107,11 +107,11 @@ fits s f small e =
       end = omega (arith, fill_is 24 f.length (get_or s 11 0) s p, p.end);
       least = omega (arith, p, z.least);
       most = omega (arith, p, z.most);
-      listed = subst (λ (h : OutHead). Listed h) (ap (λ (d : OutFrame). d.head) r.same) (record { destination = be_at_lt s 1 3 small; source = be_at_lt s 5 3 small; changing = r.header.bits });
+      listed = subst (λ (h : OutHead). Listed h) (ap (λ (d : Frame OutHead). d.head) r.same) (record { destination = be_at_lt s 1 3 small; source = be_at_lt s 5 3 small; changing = r.header.bits });
     }
 
 -- ROUND TRIP 2: writing what was read gives every byte back
-pub written_read : (s : List ℕ) (f : OutFrame) → ((i : ℕ) → get_or s i 0 < 256) → read_data_out s ≡ Frame f → out_bytes f.head (take f.length (drop 24 s)) ≡ s
+pub written_read : (s : List ℕ) (f : Frame OutHead) → ((i : ℕ) → get_or s i 0 < 256) → read_data_out s ≡ Ok f → out_bytes f.head (take f.length (drop 24 s)) ≡ s
 written_read s f small e =
     let r = found s f e in
     let k = r.header in

@@ -1,5 +1,7 @@
 -- A payload is the data with zeros behind it; lent the part of the output behind what was written before, the payload writer
 -- completes the frame, since that stays. Assumes nothing.
+use Rattle.refusals.specs.declared.Refusal.{Refusal}
+use Rattle.std.specs.Prelude.{Err, Ok, Result}
 use mathlib.Core.Path.{◌≡◌, refl, ◌∙◌, ap, sym}
 use mathlib.Core.Bool.{Bool}
 use mathlib.Core.List.{List, [], ◌∷◌, ◌++◌, append_assoc, append-nil}
@@ -13,8 +15,6 @@ use Rattle.laws.proofs.Lists.{lent_tail, back_tail}
 use Rattle.wire.specs.Be.{be_bytes, put_be}
 use Rattle.wire.proofs.Laws.{fit, put_in}
 use Rattle.refusals.specs.Causes.{refuse, buffer_causes, Wrote}
-use Rattle.refusals.specs.declared.Written.{Written}
-use Rattle.refusals.specs.declared.Written.TheVariants.{Done, Refused}
 use Rattle.ssp_frame.specs.Data.{fill_of, padded, PayloadFits, data_sized, frame_left}
 use Rattle.ssp_frame.specs.declared.header.Header.{Header}
 
@@ -83,10 +83,10 @@ unfilled k front (x ∷ body) out e = absurd (omega arith)
 
 -- what a writer of a header and a body promises, of the header and the test that its caller computed
 module _ (body out : List ℕ) where
-  pub wrote_as : {h g : Header} {t u : Bool} {after : List ℕ} {r : Written} → h ≡ g → t ≡ u
+  pub wrote_as : {h g : Header} {t u : Bool} {after : List ℕ} {r : Result (Unit {0}) Refusal} → h ≡ g → t ≡ u
       → Wrote (buffer_causes (data_sized (length body) (length out)) t) (frame_left h body out) out r after
       → Wrote (buffer_causes (data_sized (length body) (length out)) u) (frame_left g body out) out r after
   wrote_as e d w = record {
-    answer = w.answer ∙ (λ i. refuse Refused (buffer_causes (data_sized (length body) (length out)) (d i)) Done);
+    answer = w.answer ∙ (λ i. refuse Err (buffer_causes (data_sized (length body) (length out)) (d i)) (Ok tt));
     bytes = w.bytes ∙ (λ i. refuse (λ _. out) (buffer_causes (data_sized (length body) (length out)) (d i)) (frame_left (e i) body out));
   }

@@ -1,5 +1,7 @@
 -- A RESPONSE that was written is read back, and one that was read is written back byte for byte: its two rows of fields, the data
 -- and the fill are all that it has. Assumes nothing.
+use Rattle.ssp_frame.specs.declared.Frame.{Frame}
+use Rattle.std.specs.Prelude.{Err, Ok}
 use mathlib.Core.Path.{◌≡◌, refl, ◌∙◌, ap, sym, subst}
 use mathlib.Core.Bool.{Bool, true, false, cond, ◌&&◌}
 use mathlib.Core.List.{List, ◌++◌}
@@ -22,8 +24,6 @@ use Rattle.ssp_frame.specs.Response.{length_sized, response_kind, iu_of, iu_blan
 use Rattle.ssp_frame.specs.declared.header.Header.{Header}
 use Rattle.ssp_frame.specs.declared.response.Iu.{Iu}
 use Rattle.ssp_frame.specs.declared.response.ResponseHead.{ResponseHead}
-use Rattle.ssp_frame.specs.declared.response.ResponseFrame.{ResponseFrame}
-use Rattle.ssp_frame.specs.declared.response.ResponseRead.TheVariants.{Frame, Refused}
 use Rattle.ssp_frame.proofs.Fields.{blank}
 use Rattle.ssp_frame.proofs.ResponseFields.{Kind, kind, present_listed_lem, Listed, Sized, sized, Headed, headed, Rowed, rowed}
 use Rattle.ssp_frame.proofs.Heads.{Widths}
@@ -74,7 +74,7 @@ end_sized : (n : ℕ) → n ≤ 1000 → Sized (response_end n)
 end_sized n few = record { least = omega arith; most = omega arith; four = omega arith }
 
 -- ROUND TRIP 1: reading what was written
-pub read_written : (h : ResponseHead) (body : List ℕ) → Listed h → Typed h → length body ≤ 1000 → Kind h.present (length body) → read_response (response_bytes h body) ≡ Frame (record { head = h; length = length body })
+pub read_written : (h : ResponseHead) (body : List ℕ) → Listed h → Typed h → length body ≤ 1000 → Kind h.present (length body) → read_response (response_bytes h body) ≡ Ok (record { head = h; length = length body })
 unfolding read_response
 read_written h body l t few k =
     let n = length body in
@@ -101,8 +101,8 @@ read_written h body l t few k =
     }) in
     let row : iu_listed (iu_of s) (body_length s) ≡ true =
     (λ i. iu_listed (iu i) (count i)) ∙ and_true ((present_listed_lem h.present h.status).1 l.kind) (and_true ((kind h.present n).1 k) (and_true (eq-eqb u.sense u.sense refl) (eq-eqb u.response u.response refl))) in
-    sym (by_none Refused (Frame (response_of s)) size (and_true head (and_true refl row)))
-    ∙ (λ i. Frame (record {
+    sym (by_none Err (Ok (response_of s)) size (and_true head (and_true refl row)))
+    ∙ (λ i. Ok (record {
       head = record {
         destination = (m.back i).destination;
         source = (m.back i).source;
@@ -115,44 +115,44 @@ read_written h body l t few k =
     }))
 
 -- what a reader's frame says of the buffer
-pub record Found (s : List ℕ) (f : ResponseFrame) : Type 0 where
+pub record Found (s : List ℕ) (f : Frame ResponseHead) : Type 0 where
   pub size : Sized (length s)
   pub header : Headed s
   pub row : Rowed s f.length
   pub same : response_of s ≡ f
 
-apart : (f : ResponseFrame) (k : Refusal) → Refused k ≡ Frame f → ⊥
+apart : (f : Frame ResponseHead) (k : Refusal) → Err k ≡ Ok f → ⊥
 apart f k e = let z : ◌≡◌ {A = ℕ} 0 1 = cc in omega arith
 
-pub found : (s : List ℕ) (f : ResponseFrame) → read_response s ≡ Frame f → Found s f
+pub found : (s : List ℕ) (f : Frame ResponseHead) → read_response s ≡ Ok f → Found s f
 unfolding read_response
 found s f e =
     let head = rest_zero s && (response_kind (header_of s) && leb (48 + (header_of s).fill) (length s)) in
     let row = iu_blank s && iu_listed (iu_of s) (body_length s) in
-    let p = passed Refused (Frame (response_of s)) (Frame f) (apart f) (length_sized (length s)) (head && row) e in
+    let p = passed Err (Ok (response_of s)) (Ok f) (apart f) (length_sized (length s)) (head && row) e in
     let same : response_of s ≡ f = cc p.1.1 in
     record {
       size = (sized (length s)).0 p.0;
       header = (headed s).0 (and_left head row p.1.0);
-      row = subst (λ (d : ResponseFrame). Rowed s d.length) same ((rowed s (body_length s)).0 (and_right head row p.1.0));
+      row = subst (λ (d : Frame ResponseHead). Rowed s d.length) same ((rowed s (body_length s)).0 (and_right head row p.1.0));
       same = same;
     }
 
 -- its parts
-ends : (s : List ℕ) (f : ResponseFrame) → Found s f → Ends 48 f.length (get_or s 11 0) s
+ends : (s : List ℕ) (f : Frame ResponseHead) → Found s f → Ends 48 f.length (get_or s 11 0) s
 ends s f r =
-    let is : length s - 48 - get_or s 11 0 ≡ f.length = ap (λ (d : ResponseFrame). d.length) r.same in
+    let is : length s - 48 - get_or s 11 0 ≡ f.length = ap (λ (d : Frame ResponseHead). d.length) r.same in
     record { front = refl; four = r.size.four; few = r.header.rest.fill; end = omega (arith, is, r.header.room) }
 
 -- what a reader's frame says of its fields and lengths
-pub record Fits (s : List ℕ) (f : ResponseFrame) : Type 0 where
+pub record Fits (s : List ℕ) (f : Frame ResponseHead) : Type 0 where
   pub count : length (take f.length (drop 48 s)) ≡ f.length
   pub end : response_end f.length ≡ length s
   pub most : f.length ≤ 1000
   pub kind : Kind f.head.present f.length
   pub listed : Listed f.head
 
-pub fits : (s : List ℕ) (f : ResponseFrame) → ((i : ℕ) → get_or s i 0 < 256) → read_response s ≡ Frame f → Fits s f
+pub fits : (s : List ℕ) (f : Frame ResponseHead) → ((i : ℕ) → get_or s i 0 < 256) → read_response s ≡ Ok f → Fits s f
 fits s f small e =
     let r = found s f e in
     let p = ends s f r in
@@ -160,12 +160,12 @@ fits s f small e =
       count = body_long 48 f.length (get_or s 11 0) s p;
       end = omega (arith, fill_is 48 f.length (get_or s 11 0) s p, p.end);
       most = omega (arith, p, r.size.most);
-      kind = subst (λ (d : ResponseFrame). Kind d.head.present f.length) r.same r.row.counts;
-      listed = subst (λ (d : ResponseFrame). Listed d.head) r.same (record { destination = be_at_lt s 1 3 small; source = be_at_lt s 5 3 small; retransmit = omega arith; kind = r.row.kind });
+      kind = subst (λ (d : Frame ResponseHead). Kind d.head.present f.length) r.same r.row.counts;
+      listed = subst (λ (d : Frame ResponseHead). Listed d.head) r.same (record { destination = be_at_lt s 1 3 small; source = be_at_lt s 5 3 small; retransmit = omega arith; kind = r.row.kind });
     }
 
 -- ROUND TRIP 2: writing what was read gives every byte back
-pub written_read : (s : List ℕ) (f : ResponseFrame) → ((i : ℕ) → get_or s i 0 < 256) → read_response s ≡ Frame f → response_bytes f.head (take f.length (drop 48 s)) ≡ s
+pub written_read : (s : List ℕ) (f : Frame ResponseHead) → ((i : ℕ) → get_or s i 0 < 256) → read_response s ≡ Ok f → response_bytes f.head (take f.length (drop 48 s)) ≡ s
 written_read s f small e =
     let r = found s f e in
     let k = r.header in
@@ -181,13 +181,13 @@ written_read s f small e =
       kind = sym k.kind i;
       destination = (sym r.same i).head.destination;
       source = (sym r.same i).head.source;
-      bits = (ap (λ (d : ResponseFrame). d.head.retransmit * 2) (sym r.same) ∙ bits) i;
+      bits = (ap (λ (d : Frame ResponseHead). d.head.retransmit * 2) (sym r.same) ∙ bits) i;
       fill = fill i;
       tag = (sym r.same i).head.tag;
       transfer = sym k.ones i;
       offset = sym k.none i;
     } in
-    let present : f.head.present ≡ get_or s 34 0 = ap (λ (d : ResponseFrame). d.head.present) (sym r.same) in
+    let present : f.head.present ≡ get_or s 34 0 = ap (λ (d : Frame ResponseHead). d.head.present) (sym r.same) in
     let iu : iu_for f.head (length body) ≡ iu_of s = λ i. record {
       present = present i;
       status = (sym r.same i).head.status;

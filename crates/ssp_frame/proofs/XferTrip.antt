@@ -1,5 +1,6 @@
 -- An XFER_RDY that was written is read back, and one that was read is written back byte for byte: its fields are all that it has.
 -- Assumes nothing.
+use Rattle.std.specs.Prelude.{Err, Ok}
 use mathlib.Core.Path.{◌≡◌, refl, ◌∙◌, ap, sym, subst}
 use mathlib.Core.Bool.{◌&&◌}
 use mathlib.Core.List.{List, ◌++◌}
@@ -19,7 +20,6 @@ use Rattle.ssp_frame.specs.Header.{header_of, is_blank}
 use Rattle.ssp_frame.specs.Xfer.{bits_of, retransmit_of, retry_of, xfer_header, range_fields, xfer_bytes, Typed, xfer_kind, range_listed, xfer_of, read_xfer_rdy}
 use Rattle.ssp_frame.specs.declared.header.Header.{Header}
 use Rattle.ssp_frame.specs.declared.xfer_rdy.XferHead.{XferHead}
-use Rattle.ssp_frame.specs.declared.xfer_rdy.XferRead.TheVariants.{Frame, Refused}
 use Rattle.ssp_frame.proofs.XferFields.{Listed, Laid, laid}
 use Rattle.ssp_frame.proofs.Heads.{Widths, header_back}
 use Rattle.ssp_frame.proofs.Parts.{header_is}
@@ -37,7 +37,7 @@ widths h l t = record {
 }
 
 -- ROUND TRIP 1: reading what was written
-pub read_written : (h : XferHead) → Listed h → Typed h → read_xfer_rdy (xfer_bytes h) ≡ Frame h
+pub read_written : (h : XferHead) → Listed h → Typed h → read_xfer_rdy (xfer_bytes h) ≡ Ok h
 unfolding read_xfer_rdy
 read_written h l t =
     let s = xfer_bytes h in
@@ -57,8 +57,8 @@ read_written h l t =
       length = omega (arith, count, l.length);
       last = refl;
     }) in
-    sym (by_none Refused (Frame (xfer_of s)) (eq-eqb (length s) 36 refl) fine)
-    ∙ (λ i. Frame (record {
+    sym (by_none Err (Ok (xfer_of s)) (eq-eqb (length s) 36 refl) fine)
+    ∙ (λ i. Ok (record {
       destination = (back i).destination;
       source = (back i).source;
       retransmit = retransmit i;
@@ -75,13 +75,13 @@ pub record Found (s : List ℕ) (h : XferHead) : Type 0 where
   pub bytes : Laid s
   pub same : xfer_of s ≡ h
 
-apart : (h : XferHead) (k : Refusal) → Refused k ≡ Frame h → ⊥
+apart : (h : XferHead) (k : Refusal) → Err k ≡ Ok h → ⊥
 apart h k e = let z : ◌≡◌ {A = ℕ} 0 1 = cc in omega arith
 
-pub found : (s : List ℕ) (h : XferHead) → read_xfer_rdy s ≡ Frame h → Found s h
+pub found : (s : List ℕ) (h : XferHead) → read_xfer_rdy s ≡ Ok h → Found s h
 unfolding read_xfer_rdy
 found s h e =
-    let p = passed Refused (Frame (xfer_of s)) (Frame h) (apart h) (eqb (length s) 36) (is_blank s && (xfer_kind (header_of s) && range_listed s)) e in
+    let p = passed Err (Ok (xfer_of s)) (Ok h) (apart h) (eqb (length s) 36) (is_blank s && (xfer_kind (header_of s) && range_listed s)) e in
     record { long = eqb-true (length s) 36 p.0; bytes = (laid s).0 p.1.0; same = cc p.1.1 }
 
 -- and of its fields
@@ -104,7 +104,7 @@ two_bits b even few =
     omega (arith, half, quarter, high, split)
 
 -- ROUND TRIP 2: writing what was read gives every byte back
-pub written_read : (s : List ℕ) (h : XferHead) → ((i : ℕ) → get_or s i 0 < 256) → read_xfer_rdy s ≡ Frame h → xfer_bytes h ≡ s
+pub written_read : (s : List ℕ) (h : XferHead) → ((i : ℕ) → get_or s i 0 < 256) → read_xfer_rdy s ≡ Ok h → xfer_bytes h ≡ s
 written_read s h small e =
     let r = found s h e in
     let b = r.bytes in

@@ -1,14 +1,13 @@
 -- The DATA frame of a read: what a writer leaves, and what a reader finds. Assumes nothing.
-use Rattle.std.specs.Prelude.{ℕ, ◌+◌, ◌-◌, ◌%◌, ◌^◌, ◌≤◌, ◌<◌, Bool, ◌&&◌, List, ◌++◌, length, get_or, drop, replicate, eqb, ltb, leb}
+use Rattle.ssp_frame.specs.declared.Frame.{Frame}
+use Rattle.refusals.specs.declared.Refusal.{Refusal}
+use Rattle.std.specs.Prelude.{ℕ, ◌+◌, ◌-◌, ◌%◌, ◌^◌, ◌≤◌, ◌<◌, Bool, ◌&&◌, List, ◌++◌, length, get_or, drop, replicate, eqb, ltb, leb, Err, Ok, Result}
 use Rattle.wire.specs.Be.{be_at}
 use Rattle.wire.specs.Fields.{lay_bytes}
 use Rattle.refusals.specs.Causes.{Cause, refuse, buffer_causes}
 use Rattle.ssp_frame.specs.Header.{header_fields, header_of, is_blank}
 use Rattle.ssp_frame.specs.declared.header.Header.{Header}
 use Rattle.ssp_frame.specs.declared.data.DataHead.{DataHead}
-use Rattle.ssp_frame.specs.declared.data.DataFrame.{DataFrame}
-use Rattle.ssp_frame.specs.declared.data.DataRead.{DataRead}
-use Rattle.ssp_frame.specs.declared.data.DataRead.TheVariants.{Frame, Refused}
 
 -- zeros behind n bytes of data
 abbrev pub fill_of : ℕ → ℕ
@@ -74,9 +73,13 @@ pub record Typed (h : DataHead) : Type 0 where
 abbrev pub write_causes : DataHead → List ℕ → List ℕ → List Cause
 write_causes h body out = buffer_causes (data_sized (length body) (length out)) (data_listed h)
 
+-- whether n bytes are taken by a reader of frames that have `least` bytes at least
+abbrev pub sized : ℕ → ℕ → Bool
+sized least n = leb least n && (leb n 1048 && eqb (n % 4) 0)
+
 -- 01 DATA.4: The reader takes 28 to 1,048 bytes, a multiple of four, else 1; any header byte off this layout or fill not zero is 2.
 abbrev pub frame_sized : ℕ → Bool
-frame_sized n = leb 28 n && (leb n 1048 && eqb (n % 4) 0)
+frame_sized n = sized 28 n
 
 abbrev pub kind_listed : Header → Bool
 kind_listed h = eqb h.kind 1 && (ltb h.bits 2 && eqb h.transfer 65535)
@@ -93,7 +96,7 @@ rest_zero s = is_blank s && filled s
 abbrev pub read_causes : List ℕ → List Cause
 read_causes s = buffer_causes (frame_sized (length s)) ((is_blank s && kind_listed (header_of s)) && filled s)
 
-abbrev pub data_of : List ℕ → DataFrame
+abbrev pub data_of : List ℕ → Frame DataHead
 data_of s = record {
   head = record {
     destination = (header_of s).destination;
@@ -105,5 +108,5 @@ data_of s = record {
   length = length s - 24 - (header_of s).fill;
 }
 
-unfoldable pub read_data : List ℕ → DataRead
-read_data s = refuse Refused (read_causes s) (Frame (data_of s))
+unfoldable pub read_data : List ℕ → Result (Frame DataHead) Refusal
+read_data s = refuse Err (read_causes s) (Ok (data_of s))

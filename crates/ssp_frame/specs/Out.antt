@@ -1,14 +1,13 @@
 -- The DATA frame of a write, "data out": DATA under the transfer tag of the XFER_RDY that asked for it. Assumes nothing.
-use Rattle.std.specs.Prelude.{ℕ, ◌-◌, ◌^◌, ◌<◌, Bool, ◌&&◌, List, ◌++◌, length, drop, eqb, ltb}
+use Rattle.ssp_frame.specs.declared.Frame.{Frame}
+use Rattle.refusals.specs.declared.Refusal.{Refusal}
+use Rattle.std.specs.Prelude.{ℕ, ◌-◌, ◌^◌, ◌<◌, Bool, ◌&&◌, List, ◌++◌, length, drop, eqb, ltb, Err, Ok, Result}
 use Rattle.wire.specs.Fields.{lay_bytes}
 use Rattle.refusals.specs.Causes.{Cause, refuse, buffer_causes}
 use Rattle.ssp_frame.specs.Header.{header_fields, header_of}
 use Rattle.ssp_frame.specs.Data.{fill_of, frame_end, data_sized, padded, frame_sized, rest_zero}
 use Rattle.ssp_frame.specs.declared.header.Header.{Header}
 use Rattle.ssp_frame.specs.declared.data_out.OutHead.{OutHead}
-use Rattle.ssp_frame.specs.declared.data_out.OutFrame.{OutFrame}
-use Rattle.ssp_frame.specs.declared.data_out.OutRead.{OutRead}
-use Rattle.ssp_frame.specs.declared.data_out.OutRead.TheVariants.{Frame, Refused}
 
 -- 02 c.2
 -- type 1; byte 10: bit 0 changing data pointer; byte 11 the fill count; transfer tag 18-19 that of the XFER_RDY; offset 20-23
@@ -58,7 +57,7 @@ out_kind h = eqb h.kind 1 && ltb h.bits 2
 abbrev pub read_causes : List ℕ → List Cause
 read_causes s = buffer_causes (frame_sized (length s)) (rest_zero s && out_kind (header_of s))
 
-abbrev pub out_of : List ℕ → OutFrame
+abbrev pub out_of : List ℕ → Frame OutHead
 out_of s = record {
   head = record {
     destination = (header_of s).destination;
@@ -71,5 +70,5 @@ out_of s = record {
   length = length s - 24 - (header_of s).fill;
 }
 
-unfoldable pub read_data_out : List ℕ → OutRead
-read_data_out s = refuse Refused (read_causes s) (Frame (out_of s))
+unfoldable pub read_data_out : List ℕ → Result (Frame OutHead) Refusal
+read_data_out s = refuse Err (read_causes s) (Ok (out_of s))

@@ -1,16 +1,15 @@
 -- The RESPONSE frame, which ends a command: what a writer leaves, and what a reader finds. Assumes nothing.
-use Rattle.std.specs.Prelude.{ℕ, ◌+◌, ◌-◌, ◌*◌, ◌/◌, ◌%◌, ◌^◌, ◌<◌, Bool, not, cond, ◌&&◌, ◌||◌, List, [], ◌∷◌, ◌++◌, length, get_or, drop, eqb, ltb, leb}
+use Rattle.ssp_frame.specs.declared.Frame.{Frame}
+use Rattle.refusals.specs.declared.Refusal.{Refusal}
+use Rattle.std.specs.Prelude.{ℕ, ◌+◌, ◌-◌, ◌*◌, ◌/◌, ◌%◌, ◌^◌, ◌<◌, Bool, not, cond, ◌&&◌, ◌||◌, List, [], ◌∷◌, ◌++◌, length, get_or, drop, eqb, ltb, leb, Err, Ok, Result}
 use Rattle.wire.specs.Be.{be_at}
 use Rattle.wire.specs.Fields.{Field, ◌bytes◌, lay_bytes}
 use Rattle.refusals.specs.Causes.{Cause, refuse, buffer_causes}
 use Rattle.ssp_frame.specs.Header.{header_fields, header_of}
-use Rattle.ssp_frame.specs.Data.{fill_of, padded, rest_zero}
+use Rattle.ssp_frame.specs.Data.{fill_of, padded, sized, rest_zero}
 use Rattle.ssp_frame.specs.declared.header.Header.{Header}
 use Rattle.ssp_frame.specs.declared.response.Iu.{Iu}
 use Rattle.ssp_frame.specs.declared.response.ResponseHead.{ResponseHead}
-use Rattle.ssp_frame.specs.declared.response.ResponseFrame.{ResponseFrame}
-use Rattle.ssp_frame.specs.declared.response.ResponseRead.{ResponseRead}
-use Rattle.ssp_frame.specs.declared.response.ResponseRead.TheVariants.{Frame, Refused}
 
 -- 02 c.3
 -- type 7; byte 10: bit 1 retransmit; byte 11 the fill count; 18-19 all ones; 20-23 zero
@@ -95,7 +94,7 @@ write_causes h body out = buffer_causes (response_sized h.present (length body) 
 
 -- a frame of n bytes: 48 to 1,048, a multiple of four
 abbrev pub length_sized : ℕ → Bool
-length_sized n = leb 48 n && (leb n 1048 && eqb (n % 4) 0)
+length_sized n = sized 48 n
 
 -- the header of a RESPONSE: type 7, no bit of byte 10 but bit 1, 18-19 all ones, 20-23 zero
 abbrev pub response_kind : Header → Bool
@@ -122,7 +121,7 @@ iu_listed u n = present_listed u.present u.status && (kind_sized u.present n && 
 abbrev pub read_causes : List ℕ → List Cause
 read_causes s = buffer_causes (length_sized (length s)) ((rest_zero s && (response_kind (header_of s) && leb (48 + (header_of s).fill) (length s))) && (iu_blank s && iu_listed (iu_of s) (body_length s)))
 
-abbrev pub response_of : List ℕ → ResponseFrame
+abbrev pub response_of : List ℕ → Frame ResponseHead
 response_of s = record {
   head = record {
     destination = (header_of s).destination;
@@ -135,5 +134,5 @@ response_of s = record {
   length = body_length s;
 }
 
-unfoldable pub read_response : List ℕ → ResponseRead
-read_response s = refuse Refused (read_causes s) (Frame (response_of s))
+unfoldable pub read_response : List ℕ → Result (Frame ResponseHead) Refusal
+read_response s = refuse Err (read_causes s) (Ok (response_of s))

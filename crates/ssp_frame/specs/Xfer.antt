@@ -1,14 +1,13 @@
 -- The XFER_RDY frame, by which a target asks for a range of a write's bytes: what a writer leaves, and what a reader finds.
 -- Assumes nothing.
-use Rattle.std.specs.Prelude.{ℕ, ◌+◌, ◌*◌, ◌/◌, ◌%◌, ◌^◌, ◌<◌, Bool, ◌&&◌, List, [], ◌∷◌, ◌++◌, length, drop, eqb, ltb, leb}
+use Rattle.refusals.specs.declared.Refusal.{Refusal}
+use Rattle.std.specs.Prelude.{ℕ, ◌+◌, ◌*◌, ◌/◌, ◌%◌, ◌^◌, ◌<◌, Bool, ◌&&◌, List, [], ◌∷◌, ◌++◌, length, drop, eqb, ltb, leb, Err, Ok, Result}
 use Rattle.wire.specs.Be.{be_at}
 use Rattle.wire.specs.Fields.{Field, ◌bytes◌, lay_bytes}
 use Rattle.refusals.specs.Causes.{Cause, refuse, buffer_causes}
 use Rattle.ssp_frame.specs.Header.{header_fields, header_of, is_blank}
 use Rattle.ssp_frame.specs.declared.header.Header.{Header}
 use Rattle.ssp_frame.specs.declared.xfer_rdy.XferHead.{XferHead}
-use Rattle.ssp_frame.specs.declared.xfer_rdy.XferRead.{XferRead}
-use Rattle.ssp_frame.specs.declared.xfer_rdy.XferRead.TheVariants.{Frame, Refused}
 
 -- byte 10: bit 1 retransmit, bit 2 retry data frames
 abbrev pub bits_of : ℕ → ℕ → ℕ
@@ -84,5 +83,5 @@ xfer_of s = record {
   length = be_at s 28 4;
 }
 
-unfoldable pub read_xfer_rdy : List ℕ → XferRead
-read_xfer_rdy s = refuse Refused (read_causes s) (Frame (xfer_of s))
+unfoldable pub read_xfer_rdy : List ℕ → Result XferHead Refusal
+read_xfer_rdy s = refuse Err (read_causes s) (Ok (xfer_of s))

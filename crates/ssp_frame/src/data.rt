@@ -1,11 +1,11 @@
 // The DATA frame of a read: the header, the data, and zeros up to a multiple of four bytes.
 ghost use Rattle.std.specs.Prelude.{◌≡◌, ◌++◌, ◌+◌, ◌%◌, ◌^◌, ◌<◌, ◌≤◌, eqb, length, drop, replicate};
 ghost use Rattle.refusals.specs.Causes.{buffer_causes, Wrote};
-ghost use Rattle.ssp_frame.specs.Data.{fill_of, frame_left, data_header, data_listed, data_sized, PayloadFits, frame_sized, kind_listed, rest_zero, read_data, write_causes, data_left};
+ghost use Rattle.ssp_frame.specs.Data.{fill_of, frame_left, data_header, data_listed, data_sized, PayloadFits, sized, kind_listed, rest_zero, read_data, write_causes, data_left};
 
-use crate::header;
 use crate::header::Header;
-use refusals::{Refusal, Written};
+use crate::{Frame, header};
+use refusals::Refusal;
 
 #[derive(Clone, Copy)]
 pub struct DataHead {
@@ -17,19 +17,6 @@ pub struct DataHead {
     pub tag: u16,
     // In a transfer, the read offset before the frame.
     pub offset: u32,
-}
-
-// The data stands behind the 24 header bytes, as many bytes as length says.
-#[derive(Clone, Copy)]
-pub struct DataFrame {
-    pub head: DataHead,
-    pub length: u16,
-}
-
-#[derive(Clone, Copy)]
-pub enum DataRead {
-    Frame(DataFrame),
-    Refused(Refusal),
 }
 
 // How many zeros follow n bytes of data.
@@ -49,6 +36,7 @@ fn data_sized(n: usize, m: usize) -> bool
     (0 < n) & (24 + n + fill_of(n) <= m)
 }
 
+// The addresses are tested here and for each other head, as each definition lists the fields of its own frame.
 // Whether these are fields of DATA.
 pub fn data_listed(h: DataHead) -> bool
     ensures { result ≡ data_listed h }
@@ -96,23 +84,28 @@ pub(crate) fn put_payload(body: &[u8], fill: usize, out: &mut [u8])
 
 // 01 FORM.1: The part of the output slice from 24 on is lent to the payload writer.
 // A header that is listed or not, the data and its fill, at the front of out; the bytes past them stay, and on a refusal all of them.
-pub(crate) fn write_frame(h: Header, listed: bool, body: &[u8], out: &mut [u8]) -> Written
+pub(crate) fn write_frame(
+    h: Header,
+    listed: bool,
+    body: &[u8],
+    out: &mut [u8],
+) -> Result<(), Refusal>
     ensures { Wrote (buffer_causes (data_sized (length body.now) (length out.old)) listed) (frame_left h body.now out.old) out.old result out.new }
 {
     let n = body.len();
     if !data_sized(n, out.len()) {
-        return Written::Refused(Refusal::Length);
+        return Err(Refusal::Length);
     }
     if !listed {
-        return Written::Refused(Refusal::Unlisted);
+        return Err(Refusal::Unlisted);
     }
     header::put_header(h, out);
     put_payload(body, fill_of(n), &mut out[24..]);
-    Written::Done
+    Ok(())
 }
 
 // The frame, at the front of out; the bytes past it stay, and on a refusal all of them.
-pub fn write_data(h: DataHead, body: &[u8], out: &mut [u8]) -> Written
+pub fn write_data(h: DataHead, body: &[u8], out: &mut [u8]) -> Result<(), Refusal>
     ensures { Wrote (write_causes h body.now out.old) (data_left h body.now out.old) out.old result out.new }
 {
     write_frame(
@@ -123,11 +116,11 @@ pub fn write_data(h: DataHead, body: &[u8], out: &mut [u8]) -> Written
     )
 }
 
-// Whether a frame of n bytes is taken.
-pub(crate) fn frame_sized(n: usize) -> bool
-    ensures { result ≡ frame_sized n }
+// Whether a frame of n bytes is taken by a reader of frames that have `least` bytes at least.
+pub(crate) fn sized(least: usize, n: usize) -> bool
+    ensures { result ≡ sized least n }
 {
-    (28 <= n) & ((n <= 1048) & (n % 4 == 0))
+    (least <= n) & ((n <= 1048) & (n % 4 == 0))
 }
 
 // Whether the header is one of DATA for reads.
@@ -162,21 +155,21 @@ pub(crate) fn rest_zero(s: &[u8]) -> bool
 }
 
 // The frame that s holds.
-pub fn read_data(s: &[u8]) -> DataRead
+pub fn read_data(s: &[u8]) -> Result<Frame<DataHead>, Refusal>
     ensures { result ≡ read_data s.now }
 {
     let n = s.len();
-    if !frame_sized(n) {
-        return DataRead::Refused(Refusal::Length);
+    if !sized(28, n) {
+        return Err(Refusal::Length);
     }
     let h = header::header_of(s);
     if !(header::is_blank(s) & kind_listed(h)) {
-        return DataRead::Refused(Refusal::Unlisted);
+        return Err(Refusal::Unlisted);
     }
     if !ends_zero(wire::get_be(s, n - 4, 4), h.fill) {
-        return DataRead::Refused(Refusal::Unlisted);
+        return Err(Refusal::Unlisted);
     }
-    DataRead::Frame(DataFrame {
+    Ok(Frame {
         head: DataHead {
             destination: h.destination,
             source: h.source,

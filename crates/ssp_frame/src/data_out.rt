@@ -4,9 +4,11 @@ ghost use Rattle.refusals.specs.Causes.{Wrote};
 ghost use Rattle.ssp_frame.specs.Out.{out_header, out_left, out_listed, write_causes, out_kind, read_data_out};
 
 use crate::header::Header;
-use crate::{data, header};
-use refusals::{Refusal, Written};
+use crate::{Frame, data, header};
+use refusals::Refusal;
 
+// A head of its own, and no DataHead with a transfer tag more, which may not change: what C's calls and the claims on frames promise is said of each by its own fields. So its
+// tests and its reader are its own too.
 #[derive(Clone, Copy)]
 pub struct OutHead {
     // The hashed addresses, 24 bits each.
@@ -18,19 +20,6 @@ pub struct OutHead {
     // The transfer tag, that of the XFER_RDY.
     pub transfer: u16,
     pub offset: u32,
-}
-
-// The data stands behind the 24 header bytes, as many bytes as length says.
-#[derive(Clone, Copy)]
-pub struct OutFrame {
-    pub head: OutHead,
-    pub length: u16,
-}
-
-#[derive(Clone, Copy)]
-pub enum OutRead {
-    Frame(OutFrame),
-    Refused(Refusal),
 }
 
 // Whether these are fields of data out.
@@ -56,7 +45,7 @@ fn out_header(h: OutHead, fill: u8) -> Header
 }
 
 // The frame, at the front of out; the bytes past it stay, and on a refusal all of them.
-pub fn write_data_out(h: OutHead, body: &[u8], out: &mut [u8]) -> Written
+pub fn write_data_out(h: OutHead, body: &[u8], out: &mut [u8]) -> Result<(), Refusal>
     ensures { Wrote (write_causes h body.now out.old) (out_left h body.now out.old) out.old result out.new }
 {
     data::write_frame(
@@ -75,18 +64,18 @@ fn out_kind(h: Header) -> bool
 }
 
 // The frame that s holds.
-pub fn read_data_out(s: &[u8]) -> OutRead
+pub fn read_data_out(s: &[u8]) -> Result<Frame<OutHead>, Refusal>
     ensures { result ≡ read_data_out s.now }
 {
     let n = s.len();
-    if !data::frame_sized(n) {
-        return OutRead::Refused(Refusal::Length);
+    if !data::sized(28, n) {
+        return Err(Refusal::Length);
     }
     let h = header::header_of(s);
     if !(data::rest_zero(s) & out_kind(h)) {
-        return OutRead::Refused(Refusal::Unlisted);
+        return Err(Refusal::Unlisted);
     }
-    OutRead::Frame(OutFrame {
+    Ok(Frame {
         head: OutHead {
             destination: h.destination,
             source: h.source,

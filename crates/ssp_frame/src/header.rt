@@ -5,7 +5,7 @@ ghost use Rattle.ssp_frame.specs.Header.{header_fields, header_of, is_blank};
 
 #[derive(Clone, Copy)]
 pub struct Header {
-    // The frame's type.
+    // The frame's type: a number and no enum, since a frame's byte can hold any, as the marks of the heads can that C gives.
     pub kind: u8,
     // The hashed addresses, 24 bits each.
     pub destination: u32,
@@ -35,6 +35,9 @@ pub(crate) fn put_header(h: Header, out: &mut [u8])
     wire::put_be(out, 20, 4, h.offset as u64);
 }
 
+// Kept with its length in `requires`, as is_blank and rest_zero are: a struct over these bytes, with the length as its invariant, has methods
+// whose clauses say `self.entry.bytes.now` and which have to recall the invariant one by one, so it is no plainer; an array of 24
+// bytes leaves the rest of the frame behind, which rest_zero needs.
 pub(crate) fn header_of(s: &[u8]) -> Header
     requires { 24 ≤ length s.now }
     ensures { result ≡ header_of s.now }

@@ -7,3 +7,11 @@ pub mod data_out;
 mod header;
 pub mod response;
 pub mod xfer_rdy;
+
+// A frame that was read. Its data stands behind the fields, as many bytes as length says.
+#[derive(Clone, Copy)]
+pub struct Frame<H> {
+    pub head: H,
+    // The length and no slice of the data: C gets it, and the readers promise it.
+    pub length: u16,
+}

@@ -3,12 +3,12 @@
 ghost use Rattle.std.specs.Prelude.{◌≡◌, ◌++◌, ◌<◌, ◌≤◌, length, take, drop};
 ghost use Rattle.wire.specs.Fields.{lay_bytes};
 ghost use Rattle.refusals.specs.Causes.{Wrote};
-ghost use Rattle.ssp_frame.specs.Response.{response_header, iu_fields, count_of, sense_count, response_count, iu_for, response_front, response_left, kind_sized, response_sized, present_listed, response_listed};
-ghost use Rattle.ssp_frame.specs.Response.{write_causes, length_sized, response_kind, iu_of, iu_blank, iu_listed, read_response};
+ghost use Rattle.ssp_frame.specs.Response.{response_header, iu_fields, count_of, iu_for, response_front, response_left, kind_sized, response_sized, present_listed, response_listed};
+ghost use Rattle.ssp_frame.specs.Response.{write_causes, response_kind, iu_of, iu_blank, iu_listed, read_response};
 
 use crate::header::Header;
-use crate::{data, header};
-use refusals::{Refusal, Written};
+use crate::{Frame, data, header};
+use refusals::Refusal;
 
 #[derive(Clone, Copy)]
 pub struct ResponseHead {
@@ -21,19 +21,6 @@ pub struct ResponseHead {
     // Data present: 0 none, 1 response data, 2 sense data.
     pub present: u8,
     pub status: u8,
-}
-
-// The data stands behind the first 48 bytes, as many bytes as length says.
-#[derive(Clone, Copy)]
-pub struct ResponseFrame {
-    pub head: ResponseHead,
-    pub length: u16,
-}
-
-#[derive(Clone, Copy)]
-pub enum ResponseRead {
-    Frame(ResponseFrame),
-    Refused(Refusal),
 }
 
 // The fields between header and data.
@@ -101,26 +88,14 @@ fn count_of(kind: u8, present: u8, n: u16) -> u32
     if present == kind { n as u32 } else { 0 }
 }
 
-fn sense_count(present: u8, n: u16) -> u32
-    ensures { result ≡ sense_count present n }
-{
-    count_of(2, present, n)
-}
-
-fn response_count(present: u8, n: u16) -> u32
-    ensures { result ≡ response_count present n }
-{
-    count_of(1, present, n)
-}
-
 fn iu_for(h: ResponseHead, n: u16) -> Iu
     ensures { result ≡ iu_for h n }
 {
     Iu {
         present: h.present,
         status: h.status,
-        sense: sense_count(h.present, n),
-        response: response_count(h.present, n),
+        sense: count_of(2, h.present, n),
+        response: count_of(1, h.present, n),
     }
 }
 
@@ -146,28 +121,21 @@ fn put_front(h: ResponseHead, n: usize, out: &mut [u8])
 }
 
 // The frame, at the front of out; the bytes past it stay, and on a refusal all of them.
-pub fn write_response(h: ResponseHead, body: &[u8], out: &mut [u8]) -> Written
+pub fn write_response(h: ResponseHead, body: &[u8], out: &mut [u8]) -> Result<(), Refusal>
     ensures { Wrote (write_causes h body.now out.old) (response_left h body.now out.old) out.old result out.new }
 {
     let n = body.len();
     if !response_sized(h.present, n, out.len()) {
-        return Written::Refused(Refusal::Length);
+        return Err(Refusal::Length);
     }
     if !response_listed(h) {
-        return Written::Refused(Refusal::Unlisted);
+        return Err(Refusal::Unlisted);
     }
     put_front(h, n, out);
     if n != 0 {
         data::put_payload(body, data::fill_of(n), &mut out[48..]);
     }
-    Written::Done
-}
-
-// Whether a frame of n bytes is taken.
-fn length_sized(n: usize) -> bool
-    ensures { result ≡ length_sized n }
-{
-    (48 <= n) & ((n <= 1048) & (n % 4 == 0))
+    Ok(())
 }
 
 // Whether the header is one of RESPONSE.
@@ -215,24 +183,24 @@ fn iu_listed(u: Iu, n: u16) -> bool
 }
 
 // The frame that s holds.
-pub fn read_response(s: &[u8]) -> ResponseRead
+pub fn read_response(s: &[u8]) -> Result<Frame<ResponseHead>, Refusal>
     ensures { result ≡ read_response s.now }
 {
     let n = s.len();
-    if !length_sized(n) {
-        return ResponseRead::Refused(Refusal::Length);
+    if !data::sized(48, n) {
+        return Err(Refusal::Length);
     }
     let h = header::header_of(s);
     let fill = h.fill as usize;
     if !(data::rest_zero(s) & (response_kind(h) & (48 + fill <= n))) {
-        return ResponseRead::Refused(Refusal::Unlisted);
+        return Err(Refusal::Unlisted);
     }
     let length = (n - 48 - fill) as u16;
     let u = iu_of(s);
     if !(iu_blank(s) & iu_listed(u, length)) {
-        return ResponseRead::Refused(Refusal::Unlisted);
+        return Err(Refusal::Unlisted);
     }
-    ResponseRead::Frame(ResponseFrame {
+    Ok(Frame {
         head: ResponseHead {
             destination: h.destination,
             source: h.source,

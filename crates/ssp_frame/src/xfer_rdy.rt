@@ -6,7 +6,7 @@ ghost use Rattle.ssp_frame.specs.Xfer.{xfer_header, range_fields, xfer_left, xfe
 
 use crate::header;
 use crate::header::Header;
-use refusals::{Refusal, Written};
+use refusals::Refusal;
 
 #[derive(Clone, Copy)]
 pub struct XferHead {
@@ -23,12 +23,6 @@ pub struct XferHead {
     // The range: the offset of its first byte, and how many bytes it has.
     pub offset: u32,
     pub length: u32,
-}
-
-#[derive(Clone, Copy)]
-pub enum XferRead {
-    Frame(XferHead),
-    Refused(Refusal),
 }
 
 // Whether these are fields of XFER_RDY.
@@ -66,18 +60,18 @@ fn put_range(h: XferHead, out: &mut [u8])
 }
 
 // The frame, at the front of out; the bytes past it stay, and on a refusal all of them.
-pub fn write_xfer_rdy(h: XferHead, out: &mut [u8]) -> Written
+pub fn write_xfer_rdy(h: XferHead, out: &mut [u8]) -> Result<(), Refusal>
     ensures { Wrote (write_causes h out.old) (xfer_left h out.old) out.old result out.new }
 {
     if out.len() < 36 {
-        return Written::Refused(Refusal::Length);
+        return Err(Refusal::Length);
     }
     if !xfer_listed(h) {
-        return Written::Refused(Refusal::Unlisted);
+        return Err(Refusal::Unlisted);
     }
     header::put_header(xfer_header(h), out);
     put_range(h, out);
-    Written::Done
+    Ok(())
 }
 
 // Whether the header is one of XFER_RDY.
@@ -88,20 +82,20 @@ fn xfer_kind(h: Header) -> bool
 }
 
 // The frame that s holds.
-pub fn read_xfer_rdy(s: &[u8]) -> XferRead
+pub fn read_xfer_rdy(s: &[u8]) -> Result<XferHead, Refusal>
     ensures { result ≡ read_xfer_rdy s.now }
 {
     if s.len() != 36 {
-        return XferRead::Refused(Refusal::Length);
+        return Err(Refusal::Length);
     }
     let h = header::header_of(s);
     let offset = wire::get_be(s, 24, 4);
     let length = wire::get_be(s, 28, 4);
     let listed = (0 < length) & (wire::get_be(s, 32, 4) == 0);
     if !(header::is_blank(s) & (xfer_kind(h) & listed)) {
-        return XferRead::Refused(Refusal::Unlisted);
+        return Err(Refusal::Unlisted);
     }
-    XferRead::Frame(XferHead {
+    Ok(XferHead {
         destination: h.destination,
         source: h.source,
         retransmit: h.bits / 2 % 2,

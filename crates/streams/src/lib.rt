@@ -4,7 +4,7 @@
 // which error comes; of one that tells its bytes the promises say which.
 #![tactic(auto)]
 
-ghost use Rattle.std.specs.Prelude.{◌≡◌, ◌≤◌, ◌<◌, ℕ, length, take, true, false, IfOk, OnErr};
+ghost use Rattle.std.specs.Prelude.{◌≡◌, ◌≤◌, ◌<◌, ℕ, length, take, true, IfOk, IfSome, OnErr, unwrap_or};
 ghost use Rattle.std.specs.Io.KnownBytes.{Appends, Consumes, Keeps, IsAtEnd};
 ghost use Rattle.streams.specs.Counts.{IsPrefixLen};
 
@@ -13,46 +13,34 @@ mod words;
 use std::io;
 use std::io::{Error, ErrorKind, Read, Write};
 
-// What a read came to: so many bytes at the start of the buffer. If there are none, the input ended, unless the read failed.
-#[derive(Clone, Copy)]
-pub struct Got {
-    pub bytes: usize,
-    pub failed: bool,
-}
-
-// Reads some bytes, or says behind `what` why it can't.
-pub fn read<R: Read, E: Write>(from: &mut R, buf: &mut [u8], what: &[u8], said: &mut E) -> Got
-    ensures bound { IsPrefixLen result.bytes buf.new }
-    ensures taken { Consumes (R.remaining from.old) (R.remaining from.new) (take result.bytes buf.new) }
-    ensures ended { result.failed ≡ false → result.bytes ≡ 0 → 0 < length buf.old → IsAtEnd (R.remaining from.new) }
-    ensures silent { result.failed ≡ false → Keeps (E.contents said.old) (E.contents said.new) }
+// Reads some bytes to the start of the buffer and answers how many, 0 where the input ended; or says behind `what` why it can't, and answers
+// None. Then no byte was taken.
+pub fn read<R: Read, E: Write>(
+    from: &mut R,
+    buf: &mut [u8],
+    what: &[u8],
+    said: &mut E,
+) -> Option<usize>
+    ensures bound { IsPrefixLen (unwrap_or result 0) buf.new }
+    ensures taken { Consumes (R.remaining from.old) (R.remaining from.new) (take (unwrap_or result 0) buf.new) }
+    ensures ended { result ≡ Some 0 → 0 < length buf.old → IsAtEnd (R.remaining from.new) }
+    ensures silent { IfSome result (λ n. Keeps (E.contents said.old) (E.contents said.new)) }
 {
     // A proved loop has to end, and nothing says that signals do.
     for _ in 0..u64::MAX {
         let got = from.read(buf);
         match got {
-            Ok(n) => {
-                return Got {
-                    bytes: n,
-                    failed: false,
-                };
-            }
+            Ok(n) => return Some(n),
             Err(e) => {
                 if e.kind() != ErrorKind::Interrupted {
                     fail(&e, what, said);
-                    return Got {
-                        bytes: 0,
-                        failed: true,
-                    };
+                    return None;
                 }
             }
         }
     }
     fail(&Error::from(ErrorKind::Interrupted), what, said);
-    Got {
-        bytes: 0,
-        failed: true,
-    }
+    None
 }
 
 // Writes all of `bytes` and answers true; or says behind `what` why no more of them are taken, and answers false.
@@ -61,6 +49,7 @@ pub fn write<W: Write, E: Write>(to: &mut W, bytes: &[u8], what: &[u8], said: &m
     ensures front { (n : ℕ) × (n ≤ length bytes.now) × Appends (W.contents to.old) (W.contents to.new) (take n bytes.now) }
     ensures silent { result ≡ true → Keeps (E.contents said.old) (E.contents said.new) }
 {
+    // How many bytes were taken so far, which `front` promises of an end by failure too.
     let mut from = 0;
     for _ in 0..u64::MAX {
         if from >= bytes.len() {
@@ -84,10 +73,7 @@ fn taken(answer: io::Result<usize>) -> usize
     ensures ok { IfOk answer (λ n. result ≡ n) }
     ensures err { OnErr answer (result ≡ 0) }
 {
-    match answer {
-        Ok(n) => n,
-        Err(_) => 0,
-    }
+    answer.unwrap_or(0)
 }
 
 // Whether a write that took nothing, and answered so, is made again. If not, it is said why, but of an output that nobody reads any

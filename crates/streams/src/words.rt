@@ -6,7 +6,8 @@ use std::io::Error;
 // More than any of the system's has.
 const ROOM: usize = 256;
 
-// What was written, as far as there is room.
+// What was written, as far as there is room. A buffer and its length, since `write_str` keeps the front of a text that doesn't fit, which
+// no string of a fixed room does.
 #[derive(Clone, Copy)]
 pub(crate) struct Words {
     bytes: [u8; ROOM],
@@ -15,6 +16,7 @@ pub(crate) struct Words {
 
 impl Write for Words {
     fn write_str(&mut self, s: &str) -> fmt::Result {
+        // One by one: that what is written lies within the block is what this test says, and nothing else does.
         for b in s.as_bytes() {
             if self.len < ROOM {
                 self.bytes[self.len] = *b;
@@ -40,6 +42,7 @@ impl Words {
     pub(crate) fn text(&self) -> &[u8] {
         let len = self.len.min(ROOM);
         let all = &self.bytes[..len];
+        // A place is looked for, behind which a text begins: std's `position` over windows would be as long.
         for i in 0..len {
             if all[i..].starts_with(b" (os error ") {
                 return &all[..i];

@@ -1,5 +1,6 @@
 -- An XFER_RDY that goes asks for a byte at least, and for no more than a frame can name: so its writer refuses nothing, and `ask` is XFER with its frame.
 -- Assumes nothing.
+use Rattle.std.specs.Prelude.{Result}
 use Prim.Native.Nat.{ℕ, ◌^◌, ◌≤◌, ◌<◌}
 use mathlib.Core.Bool.{Bool, true, false}
 use mathlib.Core.List.{List}
@@ -12,7 +13,6 @@ use Rattle.laws.proofs.Bools.{by_test}
 use Rattle.laws.proofs.Tests.{less, both}
 use Rattle.refusals.specs.Causes.{refuse, Wrote}
 use Rattle.refusals.specs.declared.Refusal.{Refusal}
-use Rattle.refusals.specs.declared.Written.{Written}
 use Rattle.refusals.proofs.Frames.{wrote_is}
 use Rattle.ssp_frame.specs.Xfer.{xfer_left, xfer_listed, write_causes}
 use Rattle.ssp_frame.specs.declared.xfer_rdy.XferHead.{XferHead}
@@ -76,13 +76,13 @@ module _ (k others : ℕ) (s : Write) (destination source tag : ℕ) (out : List
             (both (less destination (256 ^ 3)) (both (less source (256 ^ 3)) (both (less (retransmit_of s) 2) (both (less 0 2) (less 0 (asked_length s)))))).1
             (at.0, (at.1, (retransmit_bit s, (omega arith, (due k others s is small e).0))))
 
-        wrote : {h : XferHead} {w : Written} {after : List ℕ} → h ≡ head st.state.tag s destination source tag
+        wrote : {h : XferHead} {w : Result (Unit {0}) Refusal} {after : List ℕ} → h ≡ head st.state.tag s destination source tag
             → Wrote (write_causes h out) (xfer_left h out) out w after → after ≡ xfer_left own out
         wrote {h} {w} {after} named p =
             let under : h ≡ own = named ∙ (λ i. head ((goes k others s is e).step i).state.tag s destination source tag) in
             (wrote_is (xfer_left own out) out (subst (λ (x : XferHead). Wrote (write_causes x out) (xfer_left x out) out w after) under p) room listed).1
 
-        pub sent : {h : XferHead} {w : Written} {after : List ℕ} → h ≡ head st.state.tag s destination source tag
+        pub sent : {h : XferHead} {w : Result (Unit {0}) Refusal} {after : List ℕ} → h ≡ head st.state.tag s destination source tag
             → Wrote (write_causes h out) (xfer_left h out) out w after → Asks k others s destination source tag out st after
         sent named p =
             as_asked

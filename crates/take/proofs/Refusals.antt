@@ -1,5 +1,6 @@
 -- `ask` and `take` are refused exactly by the first of their grounds that holds, since each of their tests decides one ground, and then state, output and
 -- store are as they were. Assumes nothing.
+use Rattle.std.specs.Prelude.{Err}
 use Prim.Native.Nat.{ℕ, ◌^◌, ◌≤◌, ◌<◌}
 use mathlib.Core.Bool.{false, ◌&&◌}
 use mathlib.Core.List.{List}
@@ -22,7 +23,6 @@ use Rattle.write.specs.Steps.{refused, free, asked, got}
 use Rattle.write.specs.Calls.{xfer, is_refused}
 use Rattle.write.specs.declared.Write.{Write}
 use Rattle.write.specs.declared.Stepped.{Stepped}
-use Rattle.write.specs.declared.Answer.{Answer}
 use Rattle.write.proofs.Fits.{fits_says}
 use Rattle.write.proofs.Refusals.{tested, causes_of, broken_says, wait_says, work_says, one}
 use Rattle.take.specs.Ask.{addressed, ask_step, ask_bytes}
@@ -44,7 +44,7 @@ ours_says h destination source tag =
 -- over any number of tags from 2 on, and a state whose tags are some of them
 module _ (k : ℕ) (two : 2 ≤ k) (s : Write) (small : s.tags < 2 ^ k) (destination source tag : ℕ) where
   abbrev Claim : List Ground → Stepped → List ℕ → List ℕ → Type 1
-  Claim gs st before after = Refuses Answer.Refused gs st.answer s st.state before after
+  Claim gs st before after = Refuses Err gs st.answer s st.state before after
 
   claim : (did : Stepped) → is_refused did.answer ≡ false → {cs : List Cause} {gs hs : List Ground} → Decides cs gs
       → ((j : Refusal) → First gs j ↔ First hs j) → (new before : List ℕ) → Claim hs (refuse (refused s) cs did) before (refuse (λ _. before) cs new)

@@ -1,4 +1,5 @@
 -- A RESPONSE's frame is written where the reply sends it: its writer's two tests come first, so that it refuses nothing. Assumes nothing.
+use Rattle.std.specs.Prelude.{Result}
 use mathlib.Core.Bool.{Bool, true, false}
 use mathlib.Core.List.{List}
 use mathlib.Core.Path.{◌≡◌, refl, subst}
@@ -6,7 +7,6 @@ use Prim.Native.Nat.{ℕ}
 use lib.ListN.{length}
 use Rattle.refusals.specs.Causes.{Wrote}
 use Rattle.refusals.specs.declared.Refusal.{Refusal}
-use Rattle.refusals.specs.declared.Written.{Written}
 use Rattle.refusals.proofs.Frames.{wrote_is}
 use Rattle.ssp_frame.specs.Response.{response_left, response_sized, response_listed, write_causes}
 use Rattle.ssp_frame.specs.declared.response.ResponseHead.{ResponseHead}
@@ -40,7 +40,7 @@ module _ (s : Reply) (h : ResponseHead) (body out : List ℕ) where
       pub not_sent : goes_out st ≡ false → Responds s h body out st out
       not_sent e = as_responded (sends.not_sent (refused s) (responded s) goes_out (λ j. refl) refl (causes_of respond s) _ _ _ out room fields is e)
 
-      pub sent : goes_out st ≡ true → {g : ResponseHead} {w : Written} {after : List ℕ} → g ≡ h
+      pub sent : goes_out st ≡ true → {g : ResponseHead} {w : Result (Unit {0}) Refusal} {after : List ℕ} → g ≡ h
           → Wrote (write_causes g body out) (response_left g body out) out w after → Responds s h body out st after
       sent e {g} {w} {after} named p =
           let q = subst (λ (x : ResponseHead). Wrote (write_causes x body out) (response_left x body out) out w after) named p in

@@ -1,5 +1,6 @@
 -- `respond` is refused exactly by the first of its grounds that holds, since each of its tests decides one ground, and then state and output are as they
 -- were. Assumes nothing.
+use Rattle.std.specs.Prelude.{Err}
 use Prim.Native.Nat.{ℕ}
 use mathlib.Core.List.{List}
 use mathlib.Core.Path.{refl, ap}
@@ -15,7 +16,6 @@ use Rattle.reply.specs.Calls.{respond}
 use Rattle.reply.specs.History.{is_refused}
 use Rattle.reply.specs.declared.Reply.{Reply}
 use Rattle.reply.specs.declared.Stepped.{Stepped}
-use Rattle.reply.specs.declared.Answer.{Answer}
 use Rattle.reply.proofs.Refusals.{decides, one}
 use Rattle.take.specs.Respond.{respond_causes, respond_step, respond_bytes}
 use Rattle.take.specs.Grounds.{respond_grounds, Refuses}
@@ -25,7 +25,7 @@ use Rattle.take.proofs.Told.{told}
 module _ (s : Reply) (h : ResponseHead) (body out : List ℕ) {right listed : Type 0}
     (sized : Says (response_sized h.present (length body) (length out)) right) (fields : Says (response_listed h) listed) where
   pub respond_refuses : let st = respond_step s h body out in
-      Refuses Answer.Refused (respond_grounds right listed s) st.answer s st.state out (respond_bytes s h body out)
+      Refuses Err (respond_grounds right listed s) st.answer s st.state out (respond_bytes s h body out)
   unfolding respond_step respond_bytes
   respond_refuses =
       told (λ (st : Stepped). st.answer) (λ (st : Stepped). st.state) (refused s) (responded s) one

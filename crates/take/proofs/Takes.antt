@@ -1,5 +1,8 @@
 -- `take` reads the frame, checks what DATA checks and its own causes, and then stores exactly what is answered Ok, More or Done. That DATA fits the range
 -- keeps its bytes within the store. Assumes nothing.
+use Rattle.ssp_frame.specs.declared.data_out.OutHead.{OutHead}
+use Rattle.ssp_frame.specs.declared.Frame.{Frame}
+use Rattle.std.specs.Prelude.{Err, Ok, Result}
 use Prim.Native.Nat.{ℕ, ◌+◌, ◌-◌, ◌^◌, ◌≤◌, ◌<◌}
 use mathlib.Core.Bool.{Bool, true, false, not, cond}
 use mathlib.Core.List.{List, [], ◌∷◌, ◌++◌}
@@ -16,9 +19,6 @@ use Rattle.refusals.specs.Causes.{Cause, ◌when◌, refuse}
 use Rattle.refusals.specs.declared.Refusal.{Refusal}
 use Rattle.refusals.proofs.Causes.{Verdict, stopped, passes, verdict, refuse_append, through, by_causes}
 use Rattle.ssp_frame.specs.Out.{read_causes, out_of, read_data_out}
-use Rattle.ssp_frame.specs.declared.data_out.OutFrame.{OutFrame}
-use Rattle.ssp_frame.specs.declared.data_out.OutRead.{OutRead}
-use Rattle.ssp_frame.specs.declared.data_out.OutRead.TheVariants.{Frame, Refused}
 use Rattle.ssp_frame.proofs.Fields as fields
 use Rattle.write.specs.Rules.{until, end_of}
 use Rattle.write.specs.Steps.{refused, awaited, fits, taken, got, state_causes, got_causes, got_step}
@@ -36,22 +36,22 @@ use Rattle.take.specs.Ask.{addressed}
 use Rattle.take.specs.Take.{ours, own_causes, laid, take_step, take_store, Takes, step_by, is_taken}
 
 -- what a frame's reader found: data of 1 to 1,024 bytes, behind the header
-abbrev pub Found : List ℕ → OutRead → Type 0
-Found frame (Frame f) = (1 ≤ f.length) × ((f.length ≤ 1024) × (24 + f.length ≤ length frame))
-Found frame (Refused k) = Unit {0}
+abbrev pub Found : List ℕ → Result (Frame OutHead) Refusal → Type 0
+Found frame (Ok f) = (1 ≤ f.length) × ((f.length ≤ 1024) × (24 + f.length ≤ length frame))
+Found frame (Err k) = Unit {0}
 
 pub found : (frame : List ℕ) → Found frame (read_data_out frame)
 unfolding read_data_out
 found frame =
-    by_causes (Found frame) Refused (λ k. tt) (read_causes frame) (Frame (out_of frame))
+    by_causes (Found frame) Err (λ k. tt) (read_causes frame) (Ok (out_of frame))
     (λ off. let long = fields.sized (length frame) (not-false _ off.0) in
     let few = ((fields.blank frame).0 (and_left _ _ (and_left _ _ (not-false _ off.1.0)))).fill in
     (omega (arith, long, few), (omega (arith, long, few), omega (arith, long, few))))
 
 -- what is answered to what the reader found
-abbrev pub by_read : {A : Type 0} → (Refusal → A) → (OutFrame → A) → OutRead → A
-by_read refused a (Frame f) = a f
-by_read refused a (Refused k) = refused k
+abbrev pub by_read : {A : Type 0} → (Refusal → A) → ((Frame OutHead) → A) → Result (Frame OutHead) Refusal → A
+by_read refused a (Ok f) = a f
+by_read refused a (Err k) = refused k
 
 taken_taken : (to : ℕ) (s : Write) → is_taken (taken to s).answer ≡ true
 unfolding taken
@@ -74,7 +74,7 @@ either_order true true x y = refl
 either_order true false x y = refl
 either_order false q x y = refl
 
-module _ (k : ℕ) (s : Write) (f : OutFrame) (destination source tag m : ℕ) where
+module _ (k : ℕ) (s : Write) (f : Frame OutHead) (destination source tag m : ℕ) where
   abbrev own : List Cause
   own = own_causes k s f destination source tag m
 
@@ -192,36 +192,36 @@ lent_laid at bytes store ys e =
 
 -- a call by what its reader found
 module _ (k : ℕ) (s : Write) (destination source tag : ℕ) (frame store : List ℕ) where
-  abbrev new : OutFrame → List ℕ
+  abbrev new : Frame OutHead → List ℕ
   new f = laid (s.next - s.offset) (take f.length (drop 24 frame)) store
 
-  abbrev store_by : OutFrame → List ℕ
+  abbrev store_by : Frame OutHead → List ℕ
   store_by f = refuse (λ _. store) (own_causes k s f destination source tag (length store)) (cond (awaited f.head.transfer s) (new f) store)
 
-  abbrev answer : OutFrame → Stepped
+  abbrev answer : Frame OutHead → Stepped
   answer f = step_by k s f destination source tag (length store)
 
   step_read : take_step k s destination source tag frame store ≡ by_read (refused s) answer (read_data_out frame)
   unfolding take_step read_data_out
   step_read =
       refuse_append (refused s) (read_causes frame) (own_causes k s (out_of frame) destination source tag (length store)) _
-      ∙ sym (through (by_read (refused s) answer) Refused (read_causes frame) (Frame (out_of frame)))
+      ∙ sym (through (by_read (refused s) answer) Err (read_causes frame) (Ok (out_of frame)))
 
   store_read : take_store k s destination source tag frame store ≡ by_read (λ _. store) store_by (read_data_out frame)
   unfolding take_store read_data_out
   store_read =
       refuse_append (λ _. store) (read_causes frame) (own_causes k s (out_of frame) destination source tag (length store)) _
-      ∙ sym (through (by_read (λ _. store) store_by) Refused (read_causes frame) (Frame (out_of frame)))
+      ∙ sym (through (by_read (λ _. store) store_by) Err (read_causes frame) (Ok (out_of frame)))
 
-  module _ {x : OutRead} (is : x ≡ read_data_out frame) where
-    pub unread : {j : Refusal} → x ≡ Refused j → Takes k s destination source tag frame store (refused s j) store
+  module _ {x : Result (Frame OutHead) Refusal} (is : x ≡ read_data_out frame) where
+    pub unread : {j : Refusal} → x ≡ Err j → Takes k s destination source tag frame store (refused s j) store
     unread e = record {
       step = sym (step_read ∙ ap (by_read (refused s) answer) (sym is ∙ e));
       store = sym (store_read ∙ ap (by_read (λ _. store) store_by) (sym is ∙ e));
     }
 
-    module _ {f : OutFrame} (e : x ≡ Frame f) where
-      pub measured : Found frame (Frame f)
+    module _ {f : Frame OutHead} (e : x ≡ Ok f) where
+      pub measured : Found frame (Ok f)
       measured = subst (Found frame) (sym is ∙ e) (found frame)
 
       read : {st : Stepped} {after : List ℕ} → st ≡ answer f → after ≡ cond (is_taken st.answer) (new f) store

@@ -1,5 +1,5 @@
 -- XFER with its frame: the call that writes an XFER_RDY. Assumes nothing.
-use Rattle.std.specs.Prelude.{ℕ, ◌^◌, Bool, true, false, not, ◌&&◌, List, ◌∷◌, ◌≡◌, ltb, leb, length}
+use Rattle.std.specs.Prelude.{ℕ, ◌^◌, Bool, true, false, not, ◌&&◌, List, ◌∷◌, ◌≡◌, ltb, leb, length, Err, Ok, Result}
 use Rattle.refusals.specs.Causes.{Cause, ◌when◌, refuse}
 use Rattle.refusals.specs.declared.Refusal.{Refusal}
 use Rattle.ssp_frame.specs.Xfer.{xfer_left}
@@ -49,13 +49,13 @@ pub record Asks (k others : ℕ) (s : Write) (destination source tag : ℕ) (bef
   pub step : r ≡ ask_step k others s destination source before
   pub bytes : after ≡ ask_bytes k others s destination source tag before
 
-abbrev pub is_sent : Answer → Bool
-is_sent Answer.Ok = false
-is_sent Answer.Sent = true
-is_sent Answer.Retry = false
-is_sent Answer.Late = false
-is_sent Answer.More = false
-is_sent Answer.Done = false
-is_sent Answer.Fail = false
-is_sent Answer.End = false
-is_sent (Answer.Refused k) = false
+abbrev pub is_sent : Result Answer Refusal → Bool
+is_sent (Ok Answer.Ok) = false
+is_sent (Ok Answer.Sent) = true
+is_sent (Ok Answer.Retry) = false
+is_sent (Ok Answer.Late) = false
+is_sent (Ok Answer.More) = false
+is_sent (Ok Answer.Done) = false
+is_sent (Ok Answer.Fail) = false
+is_sent (Ok Answer.End) = false
+is_sent (Err k) = false

@@ -1,10 +1,10 @@
 -- What has to hold for a call with bytes to be refused, in words. What a frame's lengths and its bytes or fields have to be are propositions of their
 -- own, `right` and `listed`. Assumes nothing.
+use Rattle.ssp_frame.specs.declared.Frame.{Frame}
 use Rattle.std.specs.Prelude.{ℕ, ◌≤◌, List, [], ◌∷◌, ◌++◌, ◌⊎◌, ◌↔◌, ◌≡◌, length}
 use Rattle.refusals.specs.Causes.{Ground, ◌if◌, buffer_grounds, First}
 use Rattle.refusals.specs.declared.Refusal.{Refusal}
 use Rattle.ssp_frame.specs.declared.data_out.OutHead.{OutHead}
-use Rattle.ssp_frame.specs.declared.data_out.OutFrame.{OutFrame}
 use Rattle.write.specs.Grounds.{Broken, Unfinished, Fits, xfer_grounds}
 use Rattle.write.specs.declared.Write.{Write}
 use Rattle.write.specs.declared.Phase.{Phase}
@@ -27,7 +27,7 @@ pub record Ours (h : OutHead) (destination source tag : ℕ) : Type 0 where
   pub tagged : h.tag ≡ tag
 
 -- 1 the frame's length, 2 a frame off its layout, 2 a hashed address above 24 bits, 3 and 6 as DATA, 2 another head, 2 as DATA, 1 a store of m bytes below N
-abbrev pub take_grounds : Type 0 → Type 0 → ℕ → Write → OutFrame → ℕ → ℕ → ℕ → ℕ → List Ground
+abbrev pub take_grounds : Type 0 → Type 0 → ℕ → Write → Frame OutHead → ℕ → ℕ → ℕ → ℕ → List Ground
 take_grounds right listed k s f destination source tag m =
     buffer_grounds right listed
     ++ ((Refusal.Unlisted if (Addressed destination source → ⊥))

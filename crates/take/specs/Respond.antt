@@ -1,5 +1,6 @@
 -- RESPONSE with its frame: the call that writes a reply's RESPONSE. Assumes nothing.
-use Rattle.std.specs.Prelude.{ℕ, Bool, true, false, List, ◌++◌, ◌≡◌}
+use Rattle.refusals.specs.declared.Refusal.{Refusal}
+use Rattle.std.specs.Prelude.{ℕ, Bool, true, false, List, ◌++◌, ◌≡◌, Err, Ok, Result}
 use Rattle.refusals.specs.Causes.{Cause, refuse}
 use Rattle.ssp_frame.specs.Response.{response_left, write_causes}
 use Rattle.ssp_frame.specs.declared.response.ResponseHead.{ResponseHead}
@@ -37,11 +38,11 @@ pub record Responds (s : Reply) (h : ResponseHead) (body before : List ℕ) (r :
   pub step : r ≡ respond_step s h body before
   pub bytes : after ≡ respond_bytes s h body before
 
-abbrev pub is_sent : Answer → Bool
-is_sent Answer.Ok = false
-is_sent Answer.Sent = true
-is_sent Answer.Retry = false
-is_sent Answer.Done = false
-is_sent Answer.Fail = false
-is_sent Answer.End = false
-is_sent (Answer.Refused k) = false
+abbrev pub is_sent : Result Answer Refusal → Bool
+is_sent (Ok Answer.Ok) = false
+is_sent (Ok Answer.Sent) = true
+is_sent (Ok Answer.Retry) = false
+is_sent (Ok Answer.Done) = false
+is_sent (Ok Answer.Fail) = false
+is_sent (Ok Answer.End) = false
+is_sent (Err k) = false

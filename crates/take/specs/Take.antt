@@ -1,10 +1,10 @@
 -- DATA with its frame: the call that takes write data into the store. Assumes nothing.
-use Rattle.std.specs.Prelude.{ℕ, ◌+◌, ◌-◌, Bool, true, false, not, cond, ◌&&◌, List, [], ◌∷◌, ◌++◌, ◌≡◌, eqb, leb, length, take, drop}
+use Rattle.ssp_frame.specs.declared.Frame.{Frame}
+use Rattle.std.specs.Prelude.{ℕ, ◌+◌, ◌-◌, Bool, true, false, not, cond, ◌&&◌, List, [], ◌∷◌, ◌++◌, ◌≡◌, eqb, leb, length, take, drop, Err, Ok, Result}
 use Rattle.refusals.specs.Causes.{Cause, ◌when◌, refuse}
 use Rattle.refusals.specs.declared.Refusal.{Refusal}
 use Rattle.ssp_frame.specs.Out.{read_causes, out_of}
 use Rattle.ssp_frame.specs.declared.data_out.OutHead.{OutHead}
-use Rattle.ssp_frame.specs.declared.data_out.OutFrame.{OutFrame}
 use Rattle.write.specs.Steps.{refused, awaited, got, fits, state_causes}
 use Rattle.write.specs.declared.Write.{Write}
 use Rattle.write.specs.declared.Stepped.{Stepped}
@@ -16,7 +16,7 @@ abbrev pub ours : OutHead → ℕ → ℕ → ℕ → Bool
 ours h destination source tag = eqb h.destination source && (eqb h.source destination && eqb h.tag tag)
 
 -- behind the frame's own causes: 2 a hashed address above 24 bits, 3 and 6 as DATA, 2 another head, 2 as DATA, 1 a store of m bytes below N
-abbrev pub own_causes : ℕ → Write → OutFrame → ℕ → ℕ → ℕ → ℕ → List Cause
+abbrev pub own_causes : ℕ → Write → Frame OutHead → ℕ → ℕ → ℕ → ℕ → List Cause
 own_causes k s f destination source tag m =
     (Refusal.Unlisted when not (addressed destination source))
     ∷ (state_causes k f.head.transfer s
@@ -57,18 +57,18 @@ pub record Takes (k : ℕ) (s : Write) (destination source tag : ℕ) (frame bef
   pub store : after ≡ take_store k s destination source tag frame before
 
 -- what a frame is answered once it is read, with a store of m bytes
-abbrev pub step_by : ℕ → Write → OutFrame → ℕ → ℕ → ℕ → ℕ → Stepped
+abbrev pub step_by : ℕ → Write → Frame OutHead → ℕ → ℕ → ℕ → ℕ → Stepped
 step_by k s f destination source tag m =
     refuse (refused s) (own_causes k s f destination source tag m) (got f.head.transfer f.head.offset f.length s)
 
 -- DATA that is taken is answered Ok, More or Done
-abbrev pub is_taken : Answer → Bool
-is_taken Answer.Ok = true
-is_taken Answer.Sent = false
-is_taken Answer.Retry = false
-is_taken Answer.Late = false
-is_taken Answer.More = true
-is_taken Answer.Done = true
-is_taken Answer.Fail = false
-is_taken Answer.End = false
-is_taken (Answer.Refused k) = false
+abbrev pub is_taken : Result Answer Refusal → Bool
+is_taken (Ok Answer.Ok) = true
+is_taken (Ok Answer.Sent) = false
+is_taken (Ok Answer.Retry) = false
+is_taken (Ok Answer.Late) = false
+is_taken (Ok Answer.More) = true
+is_taken (Ok Answer.Done) = true
+is_taken (Ok Answer.Fail) = false
+is_taken (Ok Answer.End) = false
+is_taken (Err k) = false

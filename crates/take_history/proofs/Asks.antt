@@ -1,5 +1,6 @@
 -- An XFER_RDY that went is read back out of its bytes as it was meant, so the history that is read from bytes says of it what the plain call's
 -- says. Assumes nothing.
+use Rattle.std.specs.Prelude.{Ok as XferRdy, Result}
 use Prim.Native.Nat.{ℕ, ◌^◌, ◌≤◌, ◌<◌}
 use mathlib.Core.List.{List}
 use mathlib.Core.Path.{◌≡◌, refl, ap, ◌∙◌}
@@ -13,8 +14,6 @@ use Rattle.refusals.specs.declared.Refusal.{Refusal}
 use Rattle.refusals.proofs.Causes.{NoneGiven, Verdict, stopped, passes, verdict, unrefused}
 use Rattle.ssp_frame.specs.Xfer.{xfer_bytes, read_xfer_rdy}
 use Rattle.ssp_frame.specs.declared.xfer_rdy.XferHead.{XferHead}
-use Rattle.ssp_frame.specs.declared.xfer_rdy.XferRead.{XferRead}
-use Rattle.ssp_frame.specs.declared.xfer_rdy.XferRead.TheVariants.{Frame as XferRdy}
 use Rattle.ssp_frame.proofs.XferTrip.{read_written}
 use Rattle.write.specs.Steps.{refused, free, xfer_causes, xfer_step}
 use Rattle.write.specs.declared.Write.{Write}
@@ -89,11 +88,11 @@ module _ (k others : ℕ) (s : Write) (destination source tag : ℕ) (out : List
         one = xfer_in others wrote;
         is = refl;
         like = record {
-          retransmit = ap (λ (r : XferRead). (found_xfer r others wrote).retransmit) p.read;
-          retry = ap (λ (r : XferRead). (found_xfer r others wrote).retry) p.read;
-          transfer = ap (λ (r : XferRead). (found_xfer r others wrote).transfer) p.read;
-          offset = ap (λ (r : XferRead). (found_xfer r others wrote).offset) p.read;
-          length = ap (λ (r : XferRead). (found_xfer r others wrote).length) p.read;
-          others = ap (λ (r : XferRead). (found_xfer r others wrote).others) p.read;
+          retransmit = ap (λ (r : Result XferHead Refusal). (found_xfer r others wrote).retransmit) p.read;
+          retry = ap (λ (r : Result XferHead Refusal). (found_xfer r others wrote).retry) p.read;
+          transfer = ap (λ (r : Result XferHead Refusal). (found_xfer r others wrote).transfer) p.read;
+          offset = ap (λ (r : Result XferHead Refusal). (found_xfer r others wrote).offset) p.read;
+          length = ap (λ (r : Result XferHead Refusal). (found_xfer r others wrote).length) p.read;
+          others = ap (λ (r : Result XferHead Refusal). (found_xfer r others wrote).others) p.read;
         };
       }

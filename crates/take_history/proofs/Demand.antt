@@ -1,13 +1,15 @@
 -- What request c) asks, down to the bytes: of each call the history that is read from the bytes says what the plain call's says, so the
 -- write's invariant is kept by calls with and without bytes alike. Assumes nothing.
+use Rattle.ssp_frame.specs.declared.data_out.OutHead.{OutHead}
+use Rattle.ssp_frame.specs.declared.Frame.{Frame}
+use Rattle.refusals.specs.declared.Refusal.{Refusal}
+use Rattle.std.specs.Prelude.{Ok as DataOut, Result}
 use Prim.Native.Nat.{ℕ, ◌^◌, ◌≤◌, ◌<◌}
 use mathlib.Core.List.{List, [], ◌∷◌, ◌++◌}
 use mathlib.Core.Path.{◌≡◌, refl, sym, ap, subst}
 use native.Mathlib.Omega.{arith}
 use lib.Pow.{suc_ones}
 use Rattle.ssp_frame.specs.Out.{out_of, read_data_out}
-use Rattle.ssp_frame.specs.declared.data_out.OutRead.{OutRead}
-use Rattle.ssp_frame.specs.declared.data_out.OutRead.TheVariants.{Frame as DataOut}
 use Rattle.write.specs.Rules.{unstarted}
 use Rattle.write.specs.Steps.{unfinished}
 use Rattle.write.specs.Calls as plainly
@@ -36,9 +38,9 @@ use Rattle.take_history.proofs.Takes.{Outcome, kept, passed, outcome}
 -- data that was read says what the plain call's numbers say
 pub alike_data : (frame : List ℕ) → read_data_out frame ≡ DataOut (out_of frame) → let f = out_of frame in AlikeData (data_in frame) (data_of f.head.transfer f.head.offset f.length)
 alike_data frame e = record {
-  transfer = ap (λ (r : OutRead). (found_data r frame).transfer) e;
-  offset = ap (λ (r : OutRead). (found_data r frame).offset) e;
-  length = ap (λ (r : OutRead). (found_data r frame).length) e;
+  transfer = ap (λ (r : Result (Frame OutHead) Refusal). (found_data r frame).transfer) e;
+  offset = ap (λ (r : Result (Frame OutHead) Refusal). (found_data r frame).offset) e;
+  length = ap (λ (r : Result (Frame OutHead) Refusal). (found_data r frame).length) e;
 }
 
 module _ (k : ℕ) (s : Write) (h : List Entry) (i : Inv k s (view h)) where

@@ -1,4 +1,5 @@
 -- The image theorem of a write: at complete the taken frames cover the request end to end, and the store holds them. Assumes nothing.
+use Rattle.std.specs.Prelude.{Ok}
 use Prim.Native.Nat.{ℕ, ◌-◌, ◌≤◌}
 use mathlib.Core.Bool.{Bool, false, cond}
 use mathlib.Core.List.{List, [], ◌++◌}
@@ -12,7 +13,6 @@ use Rattle.write.specs.Steps.{awaited}
 use Rattle.write.specs.declared.Answer.{Answer}
 use Rattle.write_history.specs.History.{Request, view, takes}
 use Rattle.write_history.specs.Demand.{last_end, EndToEnd}
-use Rattle.write_history.proofs.Says.{is_done}
 use Rattle.write_history.proofs.Came.{takes_awaited}
 use Rattle.write_history.proofs.Demand.{at_first}
 use Rattle.take.specs.Take.{laid, payload, take_store}
@@ -30,7 +30,7 @@ module _ (k : ℕ) (few : k ≤ 65536) (cs : List Call) (c : Call) (store : List
       let s = run k cs unstarted in
       let h = history k cs unstarted [] in
       let q = (view h).request in
-      FromImage picture (view (entries_of k c s ++ h)).taken → (step_of k c s).answer ≡ Answer.Done
+      FromImage picture (view (entries_of k c s ++ h)).taken → (step_of k c s).answer ≡ Ok Answer.Done
       → take q.count (store_after k c s (store_of k cs unstarted store)) ≡ take q.count (drop q.offset picture)
   image here picture from done =
       let s = run k cs unstarted in
@@ -41,7 +41,7 @@ module _ (k : ℕ) (few : k ≤ 65536) (cs : List Call) (c : Call) (store : List
       let held = stored k few cs store typed lent in
       let after = steps k few s h i (store_of k cs unstarted store) (first_of k cs unstarted store store) held c here in
       let ds = (view (entries_of k c s ++ h)).taken in
-      let word = call.word.done (ap is_done done) in
+      let word = call.word.done done in
       let begin : (step_of k c s).state.offset ≡ q.offset = sym (ap (λ (r : Request). r.offset) call.keeps.request) ∙ ap (λ (r : Request). r.offset) word.0 in
       let order = subst (λ (b : ℕ). EndToEnd b ds) begin call.keeps.order in
       let all = filled q.offset ds order after.sized in

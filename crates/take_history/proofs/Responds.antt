@@ -1,5 +1,7 @@
 -- A RESPONSE that went is read back out of its bytes as it was meant, and then its call is the plain one: the causes of the call are the writer's and
 -- RESPONSE's. Assumes nothing.
+use Rattle.ssp_frame.specs.declared.Frame.{Frame}
+use Rattle.std.specs.Prelude.{Ok, Result}
 use Prim.Native.Nat.{ℕ, ◌<◌}
 use mathlib.Core.List.{List}
 use mathlib.Core.Path.{◌≡◌, refl, ap, ◌∙◌}
@@ -10,9 +12,6 @@ use Rattle.refusals.specs.declared.Refusal.{Refusal}
 use Rattle.refusals.proofs.Causes.{NoneGiven, none_append, Verdict, stopped, passes, verdict, unrefused}
 use Rattle.ssp_frame.specs.Response.{response_bytes, response_end, write_causes, read_response}
 use Rattle.ssp_frame.specs.declared.response.ResponseHead.{ResponseHead}
-use Rattle.ssp_frame.specs.declared.response.ResponseFrame.{ResponseFrame}
-use Rattle.ssp_frame.specs.declared.response.ResponseRead.{ResponseRead}
-use Rattle.ssp_frame.specs.declared.response.ResponseRead.TheVariants.{Frame}
 use Rattle.ssp_frame.proofs.ResponseFields.{fitting, listed}
 use Rattle.ssp_frame.proofs.ResponseTrip.{frame_long, body_held, read_written}
 use Rattle.reply.specs.Steps.{refused, responded, retransmit_of}
@@ -27,7 +26,7 @@ module _ (s : Reply) (destination source tag present status : ℕ) (body out : L
   abbrev pub head : ResponseHead
   head = response_head s destination source tag present status
 
-  abbrev pub frame : ResponseFrame
+  abbrev pub frame : Frame ResponseHead
   frame = record { head = head; length = length body }
 
   -- the bytes that the call wrote
@@ -69,7 +68,7 @@ module _ (s : Reply) (destination source tag present status : ℕ) (body out : L
 
   module _ (typed : (tag < 65536) × (status < 256)) (p : Passed) where
     -- the reader takes it
-    pub read : read_response wrote ≡ Frame frame
+    pub read : read_response wrote ≡ Ok frame
     read =
         let off = p.off in
         let fit = (fitting present (length body) (length out)).0 (not-false _ off.0) in
@@ -81,7 +80,7 @@ module _ (s : Reply) (destination source tag present status : ℕ) (body out : L
 
     -- the history's RESPONSE has the reply's bit
     pub bit_is : (found (read_response wrote) wrote).retransmit ≡ retransmit_of s
-    bit_is = ap (λ (r : ResponseRead). (found r wrote).retransmit) read
+    bit_is = ap (λ (r : Result (Frame ResponseHead) Refusal). (found r wrote).retransmit) read
 
     -- and carries what the call was given
     pub carries : Carries wrote destination source tag present status body

@@ -1,5 +1,7 @@
 -- A retry's bytes are those of the XFER_RDY that failed, but for byte 10 and the transfer tag: both frames are their fields alone, and a retry asks
 -- for the same range. Assumes nothing.
+use Rattle.refusals.specs.declared.Refusal.{Refusal}
+use Rattle.std.specs.Prelude.{Err as NotXferRdy, Ok as XferRdy, Result}
 use Prim.Native.Nat.{ℕ, ◌≤◌}
 use mathlib.Core.Bool.{Bool, true, false}
 use mathlib.Core.List.{List, [], ◌∷◌, ◌++◌}
@@ -8,8 +10,6 @@ use lib.Dec.{eqb}
 use Rattle.laws.proofs.Bools.{never, by_test}
 use Rattle.ssp_frame.specs.Xfer.{xfer_bytes, read_xfer_rdy}
 use Rattle.ssp_frame.specs.declared.xfer_rdy.XferHead.{XferHead}
-use Rattle.ssp_frame.specs.declared.xfer_rdy.XferRead.{XferRead}
-use Rattle.ssp_frame.specs.declared.xfer_rdy.XferRead.TheVariants.{Frame as XferRdy, Refused as NotXferRdy}
 use Rattle.write.specs.Rules.{unstarted}
 use Rattle.write.specs.Calls as plainly
 use Rattle.write.specs.declared.Write.{Write}
@@ -41,11 +41,11 @@ AllRead [] = Unit {0}
 AllRead (x ∷ xs) = Read x × AllRead xs
 
 -- the head of a frame that was read
-head_in : XferRead → XferHead → XferHead
+head_in : Result XferHead Refusal → XferHead → XferHead
 head_in (XferRdy h) d = h
 head_in (NotXferRdy k) d = d
 
-is_read : XferRead → Bool
+is_read : Result XferHead Refusal → Bool
 is_read (XferRdy h) = true
 is_read (NotXferRdy k) = false
 
@@ -71,8 +71,8 @@ wrote_read : (k others : ℕ) (s : Write) (destination source tag : ℕ) (out : 
     → Read (xfer_in others (asking.wrote k others s destination source tag out))
 unfolding head_in
 wrote_read k others s destination source tag out p =
-    subst Read (sym (ap (λ (r : XferRead). found_xfer r others bytes) p.read))
-    (λ h e. let is : head ≡ h = ap (λ (r : XferRead). head_in r head) (sym p.read ∙ e) in
+    subst Read (sym (ap (λ (r : Result XferHead Refusal). found_xfer r others bytes) p.read))
+    (λ h e. let is : head ≡ h = ap (λ (r : Result XferHead Refusal). head_in r head) (sym p.read ∙ e) in
     record { bytes = p.bytes ∙ ap xfer_bytes is; offset = ap (λ (g : XferHead). g.offset) is; length = ap (λ (g : XferHead). g.length) is })
   where
     bytes : List ℕ
@@ -111,11 +111,11 @@ adds (came d) v a all = subst AllRead (sym (came_asks d v)) all
 adds ended v a all = all
 
 module _ (k : ℕ) (few : k ≤ 65536) (s : Write) (h : List Entry) (i : Inv k s (view h)) where
-  abbrev After : Entry → Answer → Type 0
+  abbrev After : Entry → Result Answer Refusal → Type 0
   After e a = AllRead (view (entries e a ++ h)).asks
 
   -- an entry is added, or none
-  by_entry : (e : Entry) (a : Answer) → AllRead (view h).asks → Adds e → After e a
+  by_entry : (e : Entry) (a : Result Answer Refusal) → AllRead (view h).asks → Adds e → After e a
   by_entry e a all new = by_test (λ (es : List Entry). AllRead (view (es ++ h)).asks) (is_refused a) (λ _. all) (λ _. adds e (view h) new all)
 
   asks_read : (others destination source tag : ℕ) (out : List ℕ) → Typed k (calls.Call.ask others destination source tag out) → AllRead (view h).asks

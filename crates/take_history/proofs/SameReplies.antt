@@ -1,5 +1,8 @@
 -- The bytes of two RESPONSEs of one reply with the same fields and data differ in byte 10 alone: both frames are their fields and data and nothing
 -- else, and byte 10 has the retransmit bit. Assumes nothing.
+use Rattle.ssp_frame.specs.declared.Frame.{Frame}
+use Rattle.refusals.specs.declared.Refusal.{Refusal}
+use Rattle.std.specs.Prelude.{Err, Ok, Result}
 use Prim.Native.Nat.{ℕ}
 use mathlib.Core.Bool.{Bool, true, false}
 use mathlib.Core.List.{List, [], ◌∷◌, ◌++◌}
@@ -7,9 +10,6 @@ use mathlib.Core.Path.{◌≡◌, refl, sym, ap, subst, ◌∙◌}
 use Rattle.laws.proofs.Bools.{never, by_test}
 use Rattle.ssp_frame.specs.Response.{response_bytes, read_response}
 use Rattle.ssp_frame.specs.declared.response.ResponseHead.{ResponseHead}
-use Rattle.ssp_frame.specs.declared.response.ResponseFrame.{ResponseFrame}
-use Rattle.ssp_frame.specs.declared.response.ResponseRead.{ResponseRead}
-use Rattle.ssp_frame.specs.declared.response.ResponseRead.TheVariants.{Frame, Refused}
 use Rattle.reply.specs.Rules.{unstarted}
 use Rattle.reply.specs.Calls as plainly
 use Rattle.reply.specs.History.{started, sent, acked, nacked, timed_out, was_lost, ended, is_refused, entry_of, Fate, Went, settle, note, view}
@@ -20,20 +20,20 @@ use Rattle.take_history.proofs.Responds as responding
 
 -- a RESPONSE of the history, where the reader takes its bytes, is its fields and data alone
 abbrev pub Read : Response → Type 0
-Read x = (f : ResponseFrame) → read_response x.bytes ≡ Frame f → x.bytes ≡ response_bytes f.head (body_in f x.bytes)
+Read x = (f : Frame ResponseHead) → read_response x.bytes ≡ Ok f → x.bytes ≡ response_bytes f.head (body_in f x.bytes)
 
 abbrev pub AllRead : List (Went Response) → Type 0
 AllRead [] = Unit {0}
 AllRead (w ∷ ws) = Read w.response × AllRead ws
 
 -- the frame that was read
-frame_in : ResponseRead → ResponseFrame → ResponseFrame
-frame_in (Frame f) d = f
-frame_in (Refused k) d = d
+frame_in : Result (Frame ResponseHead) Refusal → Frame ResponseHead → Frame ResponseHead
+frame_in (Ok f) d = f
+frame_in (Err k) d = d
 
-is_read : ResponseRead → Bool
-is_read (Frame f) = true
-is_read (Refused k) = false
+is_read : Result (Frame ResponseHead) Refusal → Bool
+is_read (Ok f) = true
+is_read (Err k) = false
 
 -- no frame has no bytes
 unread : (x : Response) → x.bytes ≡ [] → Read x
@@ -61,8 +61,8 @@ wrote_read : (s : Reply) (destination source tag present status : ℕ) (body out
     → responding.Passed s destination source tag present status body out → Read (response_by (respond destination source tag present status body out) s)
 unfolding frame_in
 wrote_read s destination source tag present status body out typed p =
-    subst Read (sym (ap (λ (r : ResponseRead). found r bytes) read))
-    (λ f e. subst (λ (g : ResponseFrame). bytes ≡ response_bytes g.head (body_in g bytes)) (ap (λ (r : ResponseRead). frame_in r frame) (sym read ∙ e))
+    subst Read (sym (ap (λ (r : Result (Frame ResponseHead) Refusal). found r bytes) read))
+    (λ f e. subst (λ (g : Frame ResponseHead). bytes ≡ response_bytes g.head (body_in g bytes)) (ap (λ (r : Result (Frame ResponseHead) Refusal). frame_in r frame) (sym read ∙ e))
     (p.bytes ∙ ap (response_bytes head) (sym (responding.body_read s destination source tag present status body out typed p))))
   where
     bytes : List ℕ
@@ -71,10 +71,10 @@ wrote_read s destination source tag present status body out typed p =
     head : ResponseHead
     head = responding.head s destination source tag present status body out
 
-    frame : ResponseFrame
+    frame : Frame ResponseHead
     frame = responding.frame s destination source tag present status body out
 
-    read : read_response bytes ≡ Frame frame
+    read : read_response bytes ≡ Ok frame
     read = responding.read s destination source tag present status body out typed p
 
 -- what an entry adds

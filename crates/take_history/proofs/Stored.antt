@@ -1,5 +1,9 @@
 -- Over any calls, each lent the store that the last one left, the store holds what was taken: a call that takes data lays it behind the rest,
 -- and no other touches the store. Assumes nothing.
+use Rattle.ssp_frame.specs.declared.data_out.OutHead.{OutHead}
+use Rattle.ssp_frame.specs.declared.Frame.{Frame}
+use Rattle.refusals.specs.declared.Refusal.{Refusal}
+use Rattle.std.specs.Prelude.{Result}
 use Prim.Native.Nat.{ℕ, ◌+◌, ◌-◌, ◌≤◌}
 use mathlib.Core.Bool.{Bool, true, false, cond}
 use mathlib.Core.List.{List, [], ◌∷◌, ◌++◌}
@@ -9,7 +13,6 @@ use lib.Dec.{ltb}
 use lib.ListN.{length, drop}
 use Rattle.laws.proofs.Bools.{by_test}
 use Rattle.ssp_frame.specs.Out.{out_of}
-use Rattle.ssp_frame.specs.declared.data_out.OutRead.{OutRead}
 use Rattle.write.specs.Rules.{unstarted, end_of}
 use Rattle.write.specs.Steps.{awaited, taken, got}
 use Rattle.write.specs.Rules.{until}
@@ -62,11 +65,11 @@ module _ (h : List Entry) (store first : List ℕ) (p : Keeps h store first) whe
   same : (g : List Entry) → (view g).taken ≡ (view h).taken → Keeps g store first
   same g e = record { holds = subst (λ (ds : List Data). Holds ds store first) (sym e) p.holds; sized = subst Sized (sym e) p.sized }
 
-  still : (e : Entry) → Still e → (a : Answer) → Keeps (entries e a ++ h) store first
+  still : (e : Entry) → Still e → (a : Result Answer Refusal) → Keeps (entries e a ++ h) store first
   still e s a = by_test (λ (es : List Entry). Keeps (es ++ h) store first) (is_refused a) (λ _. p) (λ _. same (e ∷ h) (still_taken h e s))
 
   -- a START that is taken begins with the store as it is
-  begins : (e : Entry) → (note e (view h)).taken ≡ [] → (a : Answer) → Keeps (entries e a ++ h) store (cond (is_refused a) first store)
+  begins : (e : Entry) → (note e (view h)).taken ≡ [] → (a : Result Answer Refusal) → Keeps (entries e a ++ h) store (cond (is_refused a) first store)
   begins e none a = by (is_refused a)
     where
       by : (b : Bool) → Keeps (cond b [] (e ∷ []) ++ h) store (cond b first store)
@@ -93,7 +96,7 @@ module _ (k : ℕ) (s : Write) (h : List Entry) (i : Inv k s (view h)) (store fi
 
   module _ (w : taking.Passed k s destination source tag frame store) where
     held : (data_in frame).bytes ≡ payload frame
-    held = ap (λ (r : OutRead). (found_data r frame).bytes) w.read
+    held = ap (λ (r : Result (Frame OutHead) Refusal). (found_data r frame).bytes) w.read
 
     -- it was taken, and lies behind the rest; or it is late, and does nothing
     laid_so : (b : Bool) → takes (view h) (data_in frame) ≡ b → Keeps (came (data_in frame) ∷ h) (cond b (laid (s.next - s.offset) (payload frame) store) store) first
@@ -101,7 +104,7 @@ module _ (k : ℕ) (s : Write) (h : List Entry) (i : Inv k s (view h)) (store fi
     laid_so true e =
         let ds = (view h).taken in
         let new = took (view h) (data_in frame) e in
-        let size : length (data_in frame).bytes ≡ (data_in frame).length = ap length held ∙ w.long.count ∙ sym (ap (λ (r : OutRead). (found_data r frame).length) w.read) in
+        let size : length (data_in frame).bytes ≡ (data_in frame).length = ap length held ∙ w.long.count ∙ sym (ap (λ (r : Result (Frame OutHead) Refusal). (found_data r frame).length) w.read) in
         let moved : laid (s.next - s.offset) (payload frame) store ≡ payloads (data_in frame ∷ ds) ++ drop (length (payloads (data_in frame ∷ ds))) first =
         (λ j. laid (place j) (sym held j) (p.holds j)) ∙ laid_behind (payloads ds) (data_in frame).bytes first in
         record { holds = subst (λ (es : List Data). Holds es (laid (s.next - s.offset) (payload frame) store) first) (sym new) moved; sized = subst Sized (sym new) (size, p.sized) }

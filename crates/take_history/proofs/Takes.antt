@@ -1,5 +1,6 @@
 -- A frame of data that is not refused is read as it stands, and then it is DATA with its numbers: the causes of the call have those of the frame
 -- and of DATA among them. Assumes nothing.
+use Rattle.std.specs.Prelude.{Err, Ok}
 use Prim.Native.Nat.{ℕ, ◌≤◌}
 use mathlib.Core.Bool.{true, not}
 use mathlib.Core.List.{List}
@@ -16,7 +17,6 @@ use Rattle.wire.specs.Be.{be_at}
 use Rattle.ssp_frame.specs.Header.{header_of, is_blank}
 use Rattle.ssp_frame.specs.Data.{frame_sized, filled, rest_zero}
 use Rattle.ssp_frame.specs.Out.{out_kind, read_causes, out_of, read_data_out}
-use Rattle.ssp_frame.specs.declared.data_out.OutRead.TheVariants.{Frame, Refused}
 use Rattle.write.specs.Steps.{refused, got, fits, sized, got_causes, got_step}
 use Rattle.write.specs.declared.Write.{Write}
 use Rattle.write.specs.declared.Stepped.{Stepped}
@@ -48,7 +48,7 @@ module _ (k : ℕ) (s : Write) (destination source tag : ℕ) (frame store : Lis
 
   -- or it is DATA, and the store is as that says
   pub record Passed : Type 0 where
-    pub read : read_data_out frame ≡ Frame (out_of frame)
+    pub read : read_data_out frame ≡ Ok (out_of frame)
     pub long : Long frame
     pub off : NoneGiven (got_causes k (out_of frame).head.transfer (out_of frame).head.offset (out_of frame).length s)
     pub does : take_step k s destination source tag frame store ≡ got (out_of frame).head.transfer (out_of frame).head.offset (out_of frame).length s
@@ -79,7 +79,7 @@ module _ (k : ℕ) (s : Write) (destination source tag : ℕ) (frame store : Lis
           let l = long frame both.0 in
           passed
           (record {
-            read = sym (unrefused Refused (Frame (out_of frame)) (read_causes frame) both.0);
+            read = sym (unrefused Err (Ok (out_of frame)) (read_causes frame) both.0);
             long = l;
             off = data_off l both.1;
             does = v Stepped (refused s) _;

@@ -1,14 +1,12 @@
 -- The history of a write whose frames are written and read: of an XFER_RDY it holds what the XFER_RDY reader finds in the bytes that were
 -- written, and of data what the data-out reader finds in the bytes that were received; nothing of the write's own word. Assumes nothing.
-use Rattle.std.specs.Prelude.{ℕ, List, [], ◌∷◌, ◌++◌, ◌≡◌, take, drop, set}
+use Rattle.ssp_frame.specs.declared.data_out.OutHead.{OutHead}
+use Rattle.ssp_frame.specs.declared.Frame.{Frame}
+use Rattle.refusals.specs.declared.Refusal.{Refusal}
+use Rattle.std.specs.Prelude.{ℕ, List, [], ◌∷◌, ◌++◌, ◌≡◌, take, drop, set, Err as NotDataOut, Err as NotXferRdy, Ok as DataOut, Ok as XferRdy, Result}
 use Rattle.ssp_frame.specs.Xfer.{read_xfer_rdy}
 use Rattle.ssp_frame.specs.Out.{read_data_out}
 use Rattle.ssp_frame.specs.declared.xfer_rdy.XferHead.{XferHead}
-use Rattle.ssp_frame.specs.declared.xfer_rdy.XferRead.{XferRead}
-use Rattle.ssp_frame.specs.declared.xfer_rdy.XferRead.TheVariants.{Frame as XferRdy, Refused as NotXferRdy}
-use Rattle.ssp_frame.specs.declared.data_out.OutFrame.{OutFrame}
-use Rattle.ssp_frame.specs.declared.data_out.OutRead.{OutRead}
-use Rattle.ssp_frame.specs.declared.data_out.OutRead.TheVariants.{Frame as DataOut, Refused as NotDataOut}
 use Rattle.write.specs.declared.Write.{Write}
 use Rattle.write_history.specs.History.{Xfer, Data, Entry, asked, came, entries}
 use Rattle.write_history.specs.Log as plainly
@@ -17,7 +15,7 @@ use Rattle.take_history.specs.Calls as calls
 use Rattle.take_history.specs.Calls.{Call, plain, step_of}
 
 -- what the XFER_RDY reader finds in these bytes, written by a call that was given the others' tags
-abbrev pub found_xfer : XferRead → ℕ → List ℕ → Xfer
+abbrev pub found_xfer : Result XferHead Refusal → ℕ → List ℕ → Xfer
 found_xfer (XferRdy h) others bytes =
     record { retransmit = h.retransmit; retry = h.retry; transfer = h.transfer; offset = h.offset; length = h.length; others = others; bytes = bytes }
 found_xfer (NotXferRdy r) others bytes = record { retransmit = 0; retry = 0; transfer = 0; offset = 0; length = 0; others = others; bytes = [] }
@@ -26,7 +24,7 @@ abbrev pub xfer_in : ℕ → List ℕ → Xfer
 xfer_in others bytes = found_xfer (read_xfer_rdy bytes) others bytes
 
 -- what the data-out reader finds in a frame
-abbrev pub found_data : OutRead → List ℕ → Data
+abbrev pub found_data : Result (Frame OutHead) Refusal → List ℕ → Data
 found_data (DataOut f) frame = record { transfer = f.head.transfer; offset = f.head.offset; length = f.length; bytes = take f.length (drop 24 frame) }
 found_data (NotDataOut r) frame = record { transfer = 0; offset = 0; length = 0; bytes = [] }
 
@@ -71,7 +69,7 @@ pub record Names (bytes : List ℕ) (destination source tag : ℕ) : Type 0 wher
 
 -- the data-out reader takes this frame, and finds that it came to the source from the destination, under this tag
 pub record Comes (bytes : List ℕ) (destination source tag : ℕ) : Type 0 where
-  pub frame : OutFrame
+  pub frame : Frame OutHead
   pub read : read_data_out bytes ≡ DataOut frame
   pub to : frame.head.destination ≡ source
   pub from : frame.head.source ≡ destination

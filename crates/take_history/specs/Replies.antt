@@ -1,11 +1,10 @@
 -- A call on a reply, a plain one or RESPONSE with what it is given of bytes, and the history: of a RESPONSE it holds what the RESPONSE reader finds in
 -- the bytes that were written, and the bytes; nothing of the reply's own word. Assumes nothing.
-use Rattle.std.specs.Prelude.{ℕ, ◌<◌, not, cond, List, [], ◌∷◌, ◌++◌, ◌≡◌, length, take, drop}
+use Rattle.ssp_frame.specs.declared.Frame.{Frame}
+use Rattle.refusals.specs.declared.Refusal.{Refusal}
+use Rattle.std.specs.Prelude.{ℕ, ◌<◌, not, cond, List, [], ◌∷◌, ◌++◌, ◌≡◌, length, take, drop, Err, Ok, Result}
 use Rattle.ssp_frame.specs.Response.{response_end, response_sized, response_listed, read_response}
 use Rattle.ssp_frame.specs.declared.response.ResponseHead.{ResponseHead}
-use Rattle.ssp_frame.specs.declared.response.ResponseFrame.{ResponseFrame}
-use Rattle.ssp_frame.specs.declared.response.ResponseRead.{ResponseRead}
-use Rattle.ssp_frame.specs.declared.response.ResponseRead.TheVariants.{Frame, Refused}
 use Rattle.reply.specs.Steps.{retransmit_of}
 use Rattle.reply.specs.Calls as plainly
 use Rattle.reply.specs.History.{EntryOf, entries}
@@ -55,9 +54,9 @@ abbrev pub bit_of : Response → ℕ
 bit_of f = f.retransmit
 
 -- what the RESPONSE reader finds in these bytes
-abbrev pub found : ResponseRead → List ℕ → Response
-found (Frame f) bytes = record { retransmit = f.head.retransmit; bytes = bytes }
-found (Refused k) bytes = record { retransmit = 0; bytes = [] }
+abbrev pub found : Result (Frame ResponseHead) Refusal → List ℕ → Response
+found (Ok f) bytes = record { retransmit = f.head.retransmit; bytes = bytes }
+found (Err k) bytes = record { retransmit = 0; bytes = [] }
 
 abbrev pub response_in : List ℕ → Response
 response_in bytes = found (read_response bytes) bytes
@@ -77,13 +76,13 @@ history [] s h = h
 history (c ∷ cs) s h = history cs (step_of c s).state (entries_of c s ++ h)
 
 -- the data of a frame that was read from these bytes
-abbrev pub body_in : ResponseFrame → List ℕ → List ℕ
+abbrev pub body_in : Frame ResponseHead → List ℕ → List ℕ
 body_in f bytes = take f.length (drop 48 bytes)
 
 -- in these bytes the RESPONSE reader finds what a respond call was given, data and all
 pub record Carries (bytes : List ℕ) (destination source tag present status : ℕ) (body : List ℕ) : Type 0 where
-  pub frame : ResponseFrame
-  pub taken : read_response bytes ≡ Frame frame
+  pub frame : Frame ResponseHead
+  pub taken : read_response bytes ≡ Ok frame
   pub destined : frame.head.destination ≡ destination
   pub sourced : frame.head.source ≡ source
   pub tagged : frame.head.tag ≡ tag
@@ -102,7 +101,7 @@ pub record SameFields (g h : ResponseHead) : Type 0 where
 -- the bytes of two RESPONSEs with the same fields and data are the same but for byte 10
 abbrev pub SameBytes : List ℕ → List ℕ → Type 0
 SameBytes a b =
-    (f g : ResponseFrame) → read_response a ≡ Frame f → read_response b ≡ Frame g → SameFields f.head g.head → body_in f a ≡ body_in g b
+    (f g : Frame ResponseHead) → read_response a ≡ Ok f → read_response b ≡ Ok g → SameFields f.head g.head → body_in f a ≡ body_in g b
     → blank_bits a ≡ blank_bits b
 
 -- the fields that a respond call is given are listed; retransmit is the reply's own

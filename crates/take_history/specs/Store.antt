@@ -1,5 +1,6 @@
 -- The store over calls, each lent the store that the last one left, and what it has to hold. Assumes nothing.
-use Rattle.std.specs.Prelude.{ℕ, cond, List, [], ◌∷◌, ◌++◌, ◌≡◌, take, drop}
+use Rattle.refusals.specs.declared.Refusal.{Refusal}
+use Rattle.std.specs.Prelude.{ℕ, cond, List, [], ◌∷◌, ◌++◌, ◌≡◌, take, drop, Result}
 use Rattle.write.specs.Calls as plainly
 use Rattle.write.specs.declared.Write.{Write}
 use Rattle.write.specs.declared.Answer.{Answer}
@@ -56,7 +57,7 @@ started_by (plain plainly.Call.cancel) store first = first
 started_by (calls.Call.ask others destination source tag out) store first = first
 started_by (calls.Call.take destination source tag frame lent) store first = first
 
-abbrev pub first_after : Call → Answer → List ℕ → List ℕ → List ℕ
+abbrev pub first_after : Call → Result Answer Refusal → List ℕ → List ℕ → List ℕ
 first_after c a store first = cond (is_refused a) first (started_by c store first)
 
 -- the store as it was at the last START

@@ -1,5 +1,6 @@
 -- Any call keeps the balance point's invariant with the history, refused ones among them, and it holds before any call, so it holds
 -- after all. Assumes nothing.
+use Rattle.std.specs.Prelude.{Ok}
 use Prim.Native.Nat.{ℕ, ◌-◌, ◌<◌}
 use mathlib.Core.Bool.{true, cond}
 use mathlib.Core.List.{List, [], ◌∷◌, ◌++◌}
@@ -60,7 +61,7 @@ module _ (bound : ℕ) (s : Transfer) (h : List Entry) (i : Inv bound s (view h)
         (λ t. rw e (more_drain bound s (view h) i f (g ∷ gs) e p (more_left f g gs e)))
 
     run_acks : s.phase ≡ Phase.Run → (w : List Frame) → (view h).waiting ≡ w
-        → After bound s h ack (cond (eqb (s.unanswered - 1) 0) (settled (answered s)) (say Answer.Ok (answered s)))
+        → After bound s h ack (cond (eqb (s.unanswered - 1) 0) (settled (answered s)) (say (Ok Answer.Ok) (answered s)))
     unfolding settled
     run_acks p [] e = absurd (let l = ap length e in let c = as_many in omega arith)
     run_acks p (f ∷ []) e =
@@ -94,7 +95,7 @@ module _ (bound : ℕ) (s : Transfer) (h : List Entry) (i : Inv bound s (view h)
     naks [] e = absurd (let l = ap length e in let c = as_many in omega arith)
     naks (f ∷ []) e =
         by_test (After bound s h nak) (leb s.resends s.used)
-        (λ t. rw e (overs bound s (view h) i Answer.Fail Phase.Fail (anew (nacked_to [] (view h))) (λ x c. c) (omega arith) (λ o. o) (λ g gs a same. no_frame g gs a)))
+        (λ t. rw e (overs bound s (view h) i (Ok Answer.Fail) Phase.Fail (anew (nacked_to [] (view h))) (λ x c. c) (omega arith) (λ o. o) (λ g gs a same. no_frame g gs a)))
         (λ t. by_test (After bound s h nak) (eqb (s.unanswered - 1) 0)
         (λ z. rw e (anews bound s (view h) i (s.unanswered - 1) (nacked_to [] (view h)) (one_left f e) (λ x c. c)))
         (λ z. absurd (eqb-false (s.unanswered - 1) 0 z (one_left f e))))
@@ -102,30 +103,30 @@ module _ (bound : ℕ) (s : Transfer) (h : List Entry) (i : Inv bound s (view h)
         let b = i.few in
         let l = ap length e in
         by_test (After bound s h nak) (leb s.resends s.used)
-        (λ t. rw e (overs bound s (view h) i Answer.Fail Phase.Fail (nacked_to (g ∷ gs) (view h)) (λ x c. c) (omega arith) (λ o. o) (nak_fails f (g ∷ gs) e)))
+        (λ t. rw e (overs bound s (view h) i (Ok Answer.Fail) Phase.Fail (nacked_to (g ∷ gs) (view h)) (λ x c. c) (omega arith) (λ o. o) (nak_fails f (g ∷ gs) e)))
         (λ t. by_test (After bound s h nak) (eqb (s.unanswered - 1) 0)
         (λ z. absurd (let one = eqb-true (s.unanswered - 1) 0 z in let more = more_left f g gs e in omega arith))
         (λ z. rw e (more_nak bound s (view h) i f (g ∷ gs) e as_many (tally bound s h i (work s.phase u)) (more_left f g gs e))))
 
   -- TIMEOUT and LOST alike
-  drops : (c : Call) → view (entries c (next_frame s) Answer.Retry ++ h) ≡ anew (view h)
-      → view (entries c (next_frame s) Answer.Fail ++ h) ≡ anew (view h) → After bound s h c (dropped s)
+  drops : (c : Call) → view (entries c (next_frame s) (Ok Answer.Retry) ++ h) ≡ anew (view h)
+      → view (entries c (next_frame s) (Ok Answer.Fail) ++ h) ≡ anew (view h) → After bound s h c (dropped s)
   unfolding dropped
   drops c r f =
       by_test (After bound s h c) (leb s.resends s.used)
-      (λ t. rw f (overs bound s (view h) i Answer.Fail Phase.Fail (anew (view h)) (λ x c. c) (omega arith) (λ o. o) (λ g gs a same. no_frame g gs a)))
+      (λ t. rw f (overs bound s (view h) i (Ok Answer.Fail) Phase.Fail (anew (view h)) (λ x c. c) (omega arith) (λ o. o) (λ g gs a same. no_frame g gs a)))
       (λ t. rw r (anews bound s (view h) i 0 (view h) refl (λ x c. c)))
 
   answer : (c : Call) (a : Stepped) → (unfinished s.phase ≡ true → 0 < s.unanswered → After bound s h c a)
       → After bound s h c (refuse (refused s) (answer_causes bound s) a)
   answer c a next = by_causes (After bound s h c) (refused s) (stays c) (answer_causes bound s) a (λ off. let l = some_left s off.1.0 in next l.0 l.1)
 
-  finish : (c : Call) → view (entries c (next_frame s) Answer.End ++ h) ≡ view h → After bound s h c (end_step bound s)
+  finish : (c : Call) → view (entries c (next_frame s) (Ok Answer.End) ++ h) ≡ view h → After bound s h c (end_step bound s)
   unfolding end_step
   finish c e =
       by_causes (After bound s h c) (refused s) (stays c) (end_causes bound s) (ended s)
       (λ off. let u = not-false _ off.1.0 in
-      rw e (overs bound s (view h) i Answer.End Phase.End (view h) (λ x c. c) i.few (λ o. o) (settled_now bound s h i (work s.phase u))))
+      rw e (overs bound s (view h) i (Ok Answer.End) Phase.End (view h) (λ x c. c) i.few (λ o. o) (settled_now bound s h i (work s.phase u))))
 
   goes : After bound s h frame (frame_step bound s)
   unfolding frame_step
@@ -140,7 +141,7 @@ module _ (bound : ℕ) (s : Transfer) (h : List Entry) (i : Inv bound s (view h)
   pub keeps : (c : Call) → After bound s h c (step_of bound c s)
   unfolding step_of start_step ack_step nak_step drop_step
   keeps (start b n m r) =
-      by_causes (After bound s h (start b n m r)) (refused s) (stays (start b n m r)) (start_causes bound b n m r s) (say Answer.Ok (started b n m r)) (λ off. begins bound b n m r)
+      by_causes (After bound s h (start b n m r)) (refused s) (stays (start b n m r)) (start_causes bound b n m r s) (say (Ok Answer.Ok) (started b n m r)) (λ off. begins bound b n m r)
   keeps frame = goes
   keeps ack = answer ack (acked (answered s)) (λ u some. acks u some)
   keeps nak = answer nak (nacked (answered s)) (λ u some. naks u some (view h).waiting refl)

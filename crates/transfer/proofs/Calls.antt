@@ -1,5 +1,7 @@
 -- What the checks of a call leave known, for the code behind them: a state that keeps its rules and is unfinished has its numbers in
 -- their ranges. Assumes nothing.
+use Rattle.refusals.specs.declared.Refusal.{Refusal}
+use Rattle.std.specs.Prelude.{Err, Ok, Result}
 use Prim.Native.Nat.{ℕ, ◌+◌, ◌≤◌, ◌<◌}
 use mathlib.Core.Path.{◌≡◌, refl, sym, ap, ◌∙◌}
 use mathlib.Core.Bool.{Bool, true, false, not, ◌||◌}
@@ -13,7 +15,6 @@ use Rattle.transfer.specs.Steps.{unfinished, draining, frame_length, answer_caus
 use Rattle.transfer.specs.declared.Transfer.{Transfer}
 use Rattle.transfer.specs.declared.Phase.{Phase}
 use Rattle.refusals.specs.Causes.{refuse}
-use Rattle.refusals.specs.declared.Checked.{Checked}
 use Rattle.refusals.proofs.Causes.{none_given}
 use Rattle.transfer.proofs.Facts.{Started, PhaseRule, rules_say}
 
@@ -66,15 +67,11 @@ pub record Answerable (bound : ℕ) (s : Transfer) : Type 0 where
   pub underway : unfinished s.phase ≡ true
   pub some : 0 < s.unanswered
 
-pub answerable : (bound : ℕ) (s : Transfer) {x : Checked} → x ≡ refuse Checked.Refused (answer_causes bound s) Checked.Passed → x ≡ Checked.Passed → Answerable bound s
+pub answerable : (bound : ℕ) (s : Transfer) {x : Result (Unit {0}) Refusal} → x ≡ refuse Err (answer_causes bound s) (Ok tt) → x ≡ Ok tt → Answerable bound s
 answerable bound s is passed =
     let off = none_given (answer_causes bound s) is passed in
     let left = some_left s off.1.0 in
     record { kept = not-false (keeps_rules bound s) off.0; underway = left.0; some = left.1 }
-
--- below a bound one more can be counted
-pub countable : (b x : ℕ) → b ≤ 4294967295 → leb b x ≡ false → x < 4294967295
-countable b x fits e = let less = leb-false b x e in omega arith
 
 -- a phase by its tests
 pub run_phase : (p : Phase) → unfinished p ≡ true → draining p ≡ false → p ≡ Phase.Run

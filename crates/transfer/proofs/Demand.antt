@@ -1,4 +1,6 @@
 -- Demand 3 follows from what every call keeps: of the state and its history, and of one call more. Assumes nothing.
+use Rattle.refusals.specs.declared.Refusal.{Refusal}
+use Rattle.std.specs.Prelude.{Err, Ok, Result}
 use Prim.Native.Nat.{ℕ, ◌-◌, ◌≤◌, ◌<◌}
 use mathlib.Core.Bool.{Bool, true, false, not, ◌&&◌}
 use mathlib.Core.List.{List, [], ◌∷◌, ◌++◌}
@@ -25,15 +27,15 @@ use Rattle.transfer.proofs.Calls.{run_phase, work}
 use Rattle.transfer.proofs.Invariant.{Inv, Live, Over, Settled, onto, onto_length, running, settled_now, count}
 use Rattle.transfer.proofs.Balance.{keeps, all_keep, at_first}
 
-abbrev pub is_done : Answer → Bool
-is_done Answer.Ok = false
-is_done Answer.Sent = false
-is_done Answer.Drain = false
-is_done Answer.Retry = false
-is_done Answer.Done = true
-is_done Answer.Fail = false
-is_done Answer.End = false
-is_done (Answer.Refused k) = false
+abbrev pub is_done : Result Answer Refusal → Bool
+is_done (Ok Answer.Ok) = false
+is_done (Ok Answer.Sent) = false
+is_done (Ok Answer.Drain) = false
+is_done (Ok Answer.Retry) = false
+is_done (Ok Answer.Done) = true
+is_done (Ok Answer.Fail) = false
+is_done (Ok Answer.End) = false
+is_done (Err k) = false
 
 -- "delivered" leaves the transfer done, its request as it was
 pub record Done (s t : Transfer) : Type 0 where
@@ -66,7 +68,7 @@ module _ (bound : ℕ) (s : Transfer) where
 
   says : (c : Call) → Says s (step_of bound c s)
   unfolding step_of start_step frame_step ack_step nak_step drop_step end_step
-  says (start b n m r) = by_causes (Says s) (refused s) (λ k. impossible) (start_causes bound b n m r s) (say Answer.Ok (started b n m r)) (λ off. impossible)
+  says (start b n m r) = by_causes (Says s) (refused s) (λ k. impossible) (start_causes bound b n m r s) (say (Ok Answer.Ok) (started b n m r)) (λ off. impossible)
   says frame = by_causes (Says s) (refused s) (λ k. impossible) (frame_causes bound s) (framed (frame_length s) s) (λ off. impossible)
   says ack = by_causes (Says s) (refused s) (λ k. impossible) (answer_causes bound s) (acked (answered s)) (λ off. says_ack)
   says nak = by_causes (Says s) (refused s) (λ k. impossible) (answer_causes bound s) (nacked (answered s)) (λ off. says_nak)
@@ -86,7 +88,7 @@ nothing_goes : (s : Transfer) → Goes s []
 nothing_goes s f e = absurd (apart (cc))
 
 -- a call that is no frame call adds none
-no_frame_goes : (s : Transfer) (c : Call) (a : Answer) → ((f : Frame) → entry_of c (next_frame s) ≡ sent f → ⊥) → Goes s (entries c (next_frame s) a)
+no_frame_goes : (s : Transfer) (c : Call) (a : Result Answer Refusal) → ((f : Frame) → entry_of c (next_frame s) ≡ sent f → ⊥) → Goes s (entries c (next_frame s) a)
 no_frame_goes s c a off = by_test (Goes s) (is_refused a) (λ _. nothing_goes s) (λ _ f e. absurd (off f (cc)))
 
 module _ (bound : ℕ) (s : Transfer) where

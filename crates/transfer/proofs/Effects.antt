@@ -1,5 +1,7 @@
 -- What a START, a frame, an ACK, a NAK, a new attempt and an end make of the invariant: the last ACK in run makes all up to the read
 -- offset sure, and nothing else moves the balance point. Assumes nothing.
+use Rattle.refusals.specs.declared.Refusal.{Refusal}
+use Rattle.std.specs.Prelude.{Ok, Result}
 use Prim.Native.Nat.{ℕ, suc, ◌+◌, ◌-◌, ◌≤◌, ◌<◌}
 use mathlib.Core.Bool.{true}
 use mathlib.Core.List.{List, [], ◌∷◌, ◌++◌}
@@ -120,7 +122,7 @@ module _ (bound : ℕ) (s : Transfer) (v : View) (i : Inv bound s v) where
       })
 
   -- the transfer is over, failed or ended
-  pub overs : (a : Answer) (p : Phase) (w : View) → ((x : ℕ) → Covered x v.acked → Covered x w.acked) → length w.waiting ≤ bound
+  pub overs : (a : Result Answer Refusal) (p : Phase) (w : View) → ((x : ℕ) → Covered x v.acked → Covered x w.acked) → length w.waiting ≤ bound
       → (Over (finished a p s).state w → Live p (finished a p s).state w) → Settled s w → Inv bound (finished a p s).state w
   overs a p w more few live last = kept (finished a p s).state p w refl refl refl refl more few (live (record { none = refl; last = last }))
 
@@ -214,7 +216,7 @@ module _ (bound : ℕ) (s : Transfer) (v : View) (i : Inv bound s v) where
               });
         }
 
-    pub last_done : s.read ≡ end_of s → Inv bound (finished Answer.Done Phase.Done (balanced (answered s))).state (acked_to f [] v)
+    pub last_done : s.read ≡ end_of s → Inv bound (finished (Ok Answer.Done) Phase.Done (balanced (answered s))).state (acked_to f [] v)
     last_done q =
         let r = running bound s v i p in
         let o = r.order in

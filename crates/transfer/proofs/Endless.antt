@@ -1,5 +1,6 @@
 -- Sending ends: an attempt sends no more frames than lie from B to its read offset, and so no more than the request has, and each
 -- attempt but the first uses a resend. Assumes nothing.
+use Rattle.std.specs.Prelude.{Ok}
 use Prim.Native.Nat.{ℕ, ◌+◌, ◌-◌, ◌*◌, ◌≤◌, ◌<◌}
 use mathlib.Core.List.{List, [], ◌∷◌, ◌++◌}
 use mathlib.Core.Logic.{inl, inr}
@@ -74,8 +75,8 @@ module _ (bound : ℕ) (s : Transfer) (h : List Entry) (i : Good bound s) (few :
   again : (b : ℕ) → Live bound s → frames_sent h ≤ (s.used + 1) * all s + b
   again b w = let l = paid w in omega arith
 
-  drains : (c : Call) → frames_sent (entries c (next_frame s) Answer.Retry ++ h) ≡ frames_sent h
-      → frames_sent (entries c (next_frame s) Answer.Drain ++ h) ≡ frames_sent h → Live bound s → After s h c (drained (answered s))
+  drains : (c : Call) → frames_sent (entries c (next_frame s) (Ok Answer.Retry) ++ h) ≡ frames_sent h
+      → frames_sent (entries c (next_frame s) (Ok Answer.Drain) ++ h) ≡ frames_sent h → Live bound s → After s h c (drained (answered s))
   unfolding drained
   drains c r d w = by_test (After s h c) (eqb (s.unanswered - 1) 0) (λ t. rw r (again _ w)) (λ t. rw d few)
 
@@ -90,8 +91,8 @@ module _ (bound : ℕ) (s : Transfer) (h : List Entry) (i : Good bound s) (few :
   naks w = by_test (After s h nak) (leb s.resends s.used) (λ t. few) (λ t. drains nak refl refl w)
 
   -- TIMEOUT and LOST alike
-  drops : (c : Call) → frames_sent (entries c (next_frame s) Answer.Retry ++ h) ≡ frames_sent h
-      → frames_sent (entries c (next_frame s) Answer.Fail ++ h) ≡ frames_sent h → Live bound s → After s h c (dropped s)
+  drops : (c : Call) → frames_sent (entries c (next_frame s) (Ok Answer.Retry) ++ h) ≡ frames_sent h
+      → frames_sent (entries c (next_frame s) (Ok Answer.Fail) ++ h) ≡ frames_sent h → Live bound s → After s h c (dropped s)
   unfolding dropped
   drops c r f w = by_test (After s h c) (leb s.resends s.used) (λ t. rw f few) (λ t. rw r (again _ w))
 
@@ -110,7 +111,7 @@ module _ (bound : ℕ) (s : Transfer) (h : List Entry) (i : Good bound s) (few :
 
   few_step : (c : Call) → After s h c (step_of bound c s)
   unfolding step_of start_step ack_step nak_step drop_step end_step
-  few_step (start b n m r) = by_causes (After s h (start b n m r)) (refused s) (λ k. few) (start_causes bound b n m r s) (say Answer.Ok (started b n m r)) (λ off. omega arith)
+  few_step (start b n m r) = by_causes (After s h (start b n m r)) (refused s) (λ k. few) (start_causes bound b n m r s) (say (Ok Answer.Ok) (started b n m r)) (λ off. omega arith)
   few_step frame = goes
   few_step ack = answer ack (acked (answered s)) acks
   few_step nak = answer nak (nacked (answered s)) naks

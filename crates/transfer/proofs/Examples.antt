@@ -1,4 +1,5 @@
 -- Document 01's examples, computed by the definitions. Assumes nothing.
+use Rattle.std.specs.Prelude.{Err, Ok}
 use Prim.Native.Nat.{ℕ, ◌-◌}
 use mathlib.Core.Bool.{true}
 use mathlib.Core.List.{◌∷◌, map}
@@ -28,11 +29,11 @@ p11 = (refl, refl)
 
 -- 01 READ.1
 -- START takes the ends of the ranges, and nothing past them
-pub takes : map (λ (c : Call). (step_of limit c unstarted).answer) in_ranges ≡ replicate 5 Answer.Ok
+pub takes : map (λ (c : Call). (step_of limit c unstarted).answer) in_ranges ≡ replicate 5 (Ok Answer.Ok)
 unfolding step_of start_step keeps_rules placed phase_rule
 takes = refl
 
-pub takes_no_more : map (λ (c : Call). (step_of limit c unstarted).answer) past_ranges ≡ replicate 6 (Answer.Refused Refusal.Rules)
+pub takes_no_more : map (λ (c : Call). (step_of limit c unstarted).answer) past_ranges ≡ replicate 6 (Err Refusal.Rules)
 unfolding step_of start_step keeps_rules placed phase_rule
 takes_no_more = refl
 

@@ -1,5 +1,6 @@
 -- A call that finishes the transfer moves neither the read offset nor the resends used: each way to done, fail and end changes the
 -- unanswered count, the balance point and the phase alone. Assumes nothing.
+use Rattle.std.specs.Prelude.{Ok}
 use Prim.Native.Nat.{ℕ, ◌-◌}
 use mathlib.Core.Bool.{true, false}
 use mathlib.Core.Path.{◌≡◌, refl, sym}
@@ -45,7 +46,7 @@ module _ (bound : ℕ) (s : Transfer) where
 
   pub stays : (c : Call) → Stays s (step_of bound c s)
   unfolding step_of start_step frame_step ack_step nak_step drop_step end_step
-  stays (start b n m r) = by_causes (Stays s) (refused s) (λ k e. (refl, refl)) (start_causes bound b n m r s) (say Answer.Ok (started b n m r)) (λ off e. impossible (sym e))
+  stays (start b n m r) = by_causes (Stays s) (refused s) (λ k e. (refl, refl)) (start_causes bound b n m r s) (say (Ok Answer.Ok) (started b n m r)) (λ off e. impossible (sym e))
   stays frame = by_causes (Stays s) (refused s) (λ k e. (refl, refl)) (frame_causes bound s) (framed (frame_length s) s) (λ off. goes_on (not-false _ off.1.0))
   stays ack = by_causes (Stays s) (refused s) (λ k e. (refl, refl)) (answer_causes bound s) (acked (answered s)) (λ off. stays_ack (some_left s off.1.0).0)
   stays nak = by_causes (Stays s) (refused s) (λ k e. (refl, refl)) (answer_causes bound s) (nacked (answered s)) (λ off. stays_nak)

@@ -1,5 +1,6 @@
 -- A call on a transfer is refused exactly by the first of its grounds that holds, since each of its tests decides one ground, and then
 -- the state is as it was. Assumes nothing.
+use Rattle.std.specs.Prelude.{Err, Ok, Result}
 use Prim.Native.Nat.{ℕ, ◌-◌, ◌≤◌}
 use mathlib.Core.Bool.{true, false, not}
 use mathlib.Core.List.{List}
@@ -68,7 +69,7 @@ causes_of bound cancel s = end_causes bound s
 
 -- what a call answers and leaves where it is not refused
 pub goes_on : Call → Transfer → Stepped
-goes_on (start b n m r) s = say Answer.Ok (started b n m r)
+goes_on (start b n m r) s = say (Ok Answer.Ok) (started b n m r)
 goes_on frame s = framed (frame_length s) s
 goes_on ack s = acked (answered s)
 goes_on nak s = nacked (answered s)
@@ -135,21 +136,21 @@ module _ (bound : ℕ) (two : 2 ≤ bound) (s : Transfer) where
   decides nexus = ends
   decides cancel = ends
 
-pub one : (j k : Refusal) → Answer.Refused j ≡ Answer.Refused k → j ≡ k
+pub one : (j k : Refusal) → ◌≡◌ {A = Result Answer Refusal} (Err j) (Err k) → j ≡ k
 one j k e = cc
 
 module _ (bound : ℕ) (two : 2 ≤ bound) (s : Transfer) (c : Call) (k : Refusal) where
-  answers_is : (step_of bound c s).answer ≡ refuse Answer.Refused (causes_of bound c s) (goes_on c s).answer
+  answers_is : (step_of bound c s).answer ≡ refuse Err (causes_of bound c s) (goes_on c s).answer
   answers_is = ap (λ (st : Stepped). st.answer) (step_is bound c s) ∙ causes.through (λ (st : Stepped). st.answer) (refused s) (causes_of bound c s) (goes_on c s)
 
-  apart : (j : Refusal) → (goes_on c s).answer ≡ Answer.Refused j → ⊥
+  apart : (j : Refusal) → (goes_on c s).answer ≡ Err j → ⊥
   apart j e = never (sym (taken c s) ∙ ap is_refused e)
 
   -- a call answers refusal k exactly if k is the first of its grounds that holds
-  pub refused_exactly : ((step_of bound c s).answer ≡ Answer.Refused k) ↔ First (grounds_of bound c s) k
+  pub refused_exactly : ((step_of bound c s).answer ≡ Err k) ↔ First (grounds_of bound c s) k
   refused_exactly = (
-    λ e. causes.only Answer.Refused (goes_on c s).answer one apart (decides bound two s c) k (sym answers_is ∙ e),
-    λ f. answers_is ∙ causes.if_first Answer.Refused (goes_on c s).answer one apart (decides bound two s c) k f,
+    λ e. causes.only Err (goes_on c s).answer one apart (decides bound two s c) k (sym answers_is ∙ e),
+    λ f. answers_is ∙ causes.if_first Err (goes_on c s).answer one apart (decides bound two s c) k f,
   )
 
 abbrev Kept : Transfer → Stepped → Type 0

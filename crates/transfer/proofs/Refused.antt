@@ -1,5 +1,7 @@
 -- Refusals against the history: a transfer is unfinished exactly if the history says so, and then each test by which a call is refused is
 -- one of the history. Assumes nothing.
+use Rattle.refusals.specs.declared.Refusal.{Refusal}
+use Rattle.std.specs.Prelude.{Err, Ok, Result}
 use Prim.Native.Nat.{ℕ, ◌-◌, ◌<◌}
 use mathlib.Core.Bool.{Bool, true, false, not, cond, ◌||◌}
 use mathlib.Core.List.{List, [], ◌∷◌, ◌++◌}
@@ -42,15 +44,15 @@ abbrev pub Lasts : Transfer → List Entry → Call → Stepped → Type 0
 Lasts s h c st = Lives st.state (entries c (next_frame s) st.answer ++ h)
 
 -- an answer that is no refusal has no number
-none : (a : Answer) → is_refused a ≡ false → refusal_of a ≡ 0
-none Answer.Ok e = refl
-none Answer.Sent e = refl
-none Answer.Drain e = refl
-none Answer.Retry e = refl
-none Answer.Done e = refl
-none Answer.Fail e = refl
-none Answer.End e = refl
-none (Answer.Refused k) e = absurd (never (sym e))
+none : (a : Result Answer Refusal) → is_refused a ≡ false → refusal_of a ≡ 0
+none (Ok Answer.Ok) e = refl
+none (Ok Answer.Sent) e = refl
+none (Ok Answer.Drain) e = refl
+none (Ok Answer.Retry) e = refl
+none (Ok Answer.Done) e = refl
+none (Ok Answer.Fail) e = refl
+none (Ok Answer.End) e = refl
+none (Err k) e = absurd (never (sym e))
 
 module _ (bound : ℕ) (s : Transfer) (h : List Entry) (i : Inv bound s (view h)) (w : Tally s h) (l : Lives s h) where
   module _ (u : unfinished s.phase ≡ true) (some : 0 < s.unanswered) where
@@ -58,7 +60,7 @@ module _ (bound : ℕ) (s : Transfer) (h : List Entry) (i : Inv bound s (view h)
     unfolding drained
     drain_lasts d = by_test (Lasts s h ack) (eqb (s.unanswered - 1) 0) (λ t. rw (sym (nak_seen bound s h i w u) ∙ d)) (λ t. rw (sym (nak_seen bound s h i w u) ∙ d))
 
-    run_lasts : draining s.phase ≡ false → Lasts s h ack (cond (eqb (s.unanswered - 1) 0) (settled (answered s)) (say Answer.Ok (answered s)))
+    run_lasts : draining s.phase ≡ false → Lasts s h ack (cond (eqb (s.unanswered - 1) 0) (settled (answered s)) (say (Ok Answer.Ok) (answered s)))
     unfolding settled
     run_lasts d =
         let calm = sym (nak_seen bound s h i w u) ∙ d in
@@ -89,7 +91,7 @@ module _ (bound : ℕ) (s : Transfer) (h : List Entry) (i : Inv bound s (view h)
 
   pub lasts : (c : Call) → Lasts s h c (step_of bound c s)
   unfolding step_of start_step frame_step ack_step nak_step drop_step end_step
-  lasts (start b n m r) = by_causes (Lasts s h (start b n m r)) (refused s) (λ k. l) (start_causes bound b n m r s) (say Answer.Ok (started b n m r)) (λ off. refl)
+  lasts (start b n m r) = by_causes (Lasts s h (start b n m r)) (refused s) (λ k. l) (start_causes bound b n m r s) (say (Ok Answer.Ok) (started b n m r)) (λ off. refl)
   lasts frame = by_causes (Lasts s h frame) (refused s) (λ k. l) (frame_causes bound s) (framed (frame_length s) s) (λ off. not-false _ off.1.0)
   lasts ack = answers ack (acked (answered s)) ack_lasts
   lasts nak = answers nak (nacked (answered s)) nak_lasts

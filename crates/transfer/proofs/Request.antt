@@ -1,5 +1,6 @@
 -- B, N, M and R: each call leaves them as the history has them, since START alone sets them and sets them to what it was called with.
 -- Assumes nothing.
+use Rattle.std.specs.Prelude.{Ok}
 use Prim.Native.Nat.{ℕ, ◌-◌}
 use mathlib.Core.Path.{◌≡◌, refl, sym}
 use lib.Dec.{leb, eqb}
@@ -40,7 +41,7 @@ module _ (bound : ℕ) (s : Transfer) where
 
   pub asks : (c : Call) → Asks s c (step_of bound c s)
   unfolding step_of start_step frame_step ack_step nak_step drop_step end_step
-  asks (start b n m r) = by_causes (Asks s (start b n m r)) (refused s) (λ k. refl) (start_causes bound b n m r s) (say Answer.Ok (started b n m r)) (λ off. refl)
+  asks (start b n m r) = by_causes (Asks s (start b n m r)) (refused s) (λ k. refl) (start_causes bound b n m r s) (say (Ok Answer.Ok) (started b n m r)) (λ off. refl)
   asks frame = by_causes (Asks s frame) (refused s) (λ k. refl) (frame_causes bound s) (framed (frame_length s) s) (λ off. refl)
   asks ack = by_causes (Asks s ack) (refused s) (λ k. refl) (answer_causes bound s) (acked (answered s)) (λ off. asks_ack)
   asks nak = by_causes (Asks s nak) (refused s) (λ k. refl) (answer_causes bound s) (nacked (answered s)) (λ off. asks_nak)

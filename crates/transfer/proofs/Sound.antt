@@ -1,5 +1,6 @@
 -- Whatever calls leave keeps the rules: a call moves the balance point and the read offset by whole frames, and counts with them.
 -- Assumes nothing.
+use Rattle.std.specs.Prelude.{Ok}
 use Prim.Native.Nat.{ℕ, suc, ◌+◌, ◌-◌, ◌*◌, ◌≤◌, ◌<◌, min}
 use mathlib.Core.Bool.{true, false}
 use mathlib.Core.List.{List, [], ◌∷◌}
@@ -97,12 +98,12 @@ module _ (bound : ℕ) (s : Transfer) where
         (λ t. let two = two_left (eqb-false _ _ t) in
         make bound (in_phase Phase.Drain (answered s)) k f Phase.Drain o.base (o.room, (o.went, (less, (omega arith, (omega arith, omega arith))))) refl)
 
-    fails : s.resends ≤ s.used → Good bound (finished Answer.Fail Phase.Fail s).state
+    fails : s.resends ≤ s.used → Good bound (finished (Ok Answer.Fail) Phase.Fail s).state
     fails l =
         let tried = o.base.tried in
         let most = o.most in
         let some = o.some in
-        make bound (finished Answer.Fail Phase.Fail s).state k f Phase.Fail o.base (o.room, (o.went, (omega arith, (refl, omega arith)))) refl
+        make bound (finished (Ok Answer.Fail) Phase.Fail s).state k f Phase.Fail o.base (o.room, (o.went, (omega arith, (refl, omega arith)))) refl
 
     -- the balance point at the read offset
     settles : s.unanswered - 1 ≡ 0 → s.phase ≡ Phase.Run → Leaves bound (settled (answered s))
@@ -110,7 +111,7 @@ module _ (bound : ℕ) (s : Transfer) where
     settles one p =
         by_test (Leaves bound) (all_sent s)
         (λ q. let z = eqb-true s.read (end_of s) q in
-        make bound (finished Answer.Done Phase.Done (balanced (answered s))).state (k + f) 0 Phase.Done ahead (z, (z, (refl, o.went))) refl)
+        make bound (finished (Ok Answer.Done) Phase.Done (balanced (answered s))).state (k + f) 0 Phase.Done ahead (z, (z, (refl, o.went))) refl)
         (λ q. let z = eqb-false s.read (end_of s) q in
         make bound (balanced (answered s)) (k + f) 0 Phase.Run ahead (near z, (inr (refl, inl (o.went, moved)), inl (refl, one))) p)
       where
@@ -228,7 +229,7 @@ module _ (bound : ℕ) (s : Transfer) (i : Good bound s) where
   begins : (b n m r : ℕ) → Leaves bound (start_step bound b n m r s)
   unfolding start_step
   begins b n m r =
-      by_causes (Leaves bound) (refused s) stays (start_causes bound b n m r s) (say Answer.Ok (started b n m r))
+      by_causes (Leaves bound) (refused s) stays (start_causes bound b n m r s) (say (Ok Answer.Ok) (started b n m r))
       (λ off. starts bound b n m r ((in_range_lem b n m r).0 (not-false _ (nor _ _ off.0).0)))
 
   pub step_good : (c : Call) → Leaves bound (step_of bound c s)

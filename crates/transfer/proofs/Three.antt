@@ -1,5 +1,6 @@
 -- Refusal 3 of a state that keeps its rules: every other cause has another number, and so only a START whose own numbers are out of
 -- range is refused with 3. Assumes nothing.
+use Rattle.std.specs.Prelude.{Err, Ok, Result}
 use Prim.Native.Nat.{ℕ}
 use mathlib.Core.Bool.{Bool, true, false, not}
 use mathlib.Core.List.{List, [], ◌∷◌}
@@ -24,27 +25,27 @@ use Rattle.transfer.specs.declared.Answer.{Answer}
 use Rattle.transfer.proofs.Facts.{in_range_lem}
 use Rattle.transfer.proofs.Refusals.{causes_of, goes_on, step_is, taken}
 
-abbrev pub is_three : Answer → Bool
-is_three Answer.Ok = false
-is_three Answer.Sent = false
-is_three Answer.Drain = false
-is_three Answer.Retry = false
-is_three Answer.Done = false
-is_three Answer.Fail = false
-is_three Answer.End = false
-is_three (Answer.Refused k) = eqb (number_of k) 3
+abbrev pub is_three : Result Answer Refusal → Bool
+is_three (Ok Answer.Ok) = false
+is_three (Ok Answer.Sent) = false
+is_three (Ok Answer.Drain) = false
+is_three (Ok Answer.Retry) = false
+is_three (Ok Answer.Done) = false
+is_three (Ok Answer.Fail) = false
+is_three (Ok Answer.End) = false
+is_three (Err k) = eqb (number_of k) 3
 
-not_refused : (a : Answer) → is_refused a ≡ false → is_three a ≡ false
-not_refused Answer.Ok e = refl
-not_refused Answer.Sent e = refl
-not_refused Answer.Drain e = refl
-not_refused Answer.Retry e = refl
-not_refused Answer.Done e = refl
-not_refused Answer.Fail e = refl
-not_refused Answer.End e = refl
-not_refused (Answer.Refused k) e = absurd (never (sym e))
+not_refused : (a : Result Answer Refusal) → is_refused a ≡ false → is_three a ≡ false
+not_refused (Ok Answer.Ok) e = refl
+not_refused (Ok Answer.Sent) e = refl
+not_refused (Ok Answer.Drain) e = refl
+not_refused (Ok Answer.Retry) e = refl
+not_refused (Ok Answer.Done) e = refl
+not_refused (Ok Answer.Fail) e = refl
+not_refused (Ok Answer.End) e = refl
+not_refused (Err k) e = absurd (never (sym e))
 
-pub none : {a : Answer} → is_three a ≡ false → (a ≡ Answer.Refused Refusal.Rules) ↔ ⊥
+pub none : {a : Result Answer Refusal} → is_three a ≡ false → (a ≡ Err Refusal.Rules) ↔ ⊥
 none off = (λ e. never (sym off ∙ ap is_three e), λ (h : ⊥). absurd h)
 
 -- causes of other numbers
@@ -67,11 +68,11 @@ module _ (bound : ℕ) (s : Transfer) where
     unfolding start_step
     ranged b n m r = by (in_range b n m r) refl
       where
-        by : (t : Bool) → in_range b n m r ≡ t → is_three (refuse (refused s) (start_causes bound b n m r s) (say Answer.Ok (started b n m r))).answer ≡ not t
-        by true q = rw (q, kept) (others (drop 1 (start_causes bound b n m r s)) (say Answer.Ok (started b n m r)) (refl, tt) refl)
+        by : (t : Bool) → in_range b n m r ≡ t → is_three (refuse (refused s) (start_causes bound b n m r s) (say (Ok Answer.Ok) (started b n m r))).answer ≡ not t
+        by true q = rw (q, kept) (others (drop 1 (start_causes bound b n m r s)) (say (Ok Answer.Ok) (started b n m r)) (refl, tt) refl)
         by false q = rw q
 
-    ranged_says : (b n m r : ℕ) → ((start_step bound b n m r s).answer ≡ Answer.Refused Refusal.Rules) ↔ OutOfRange (start b n m r)
+    ranged_says : (b n m r : ℕ) → ((start_step bound b n m r s).answer ≡ Err Refusal.Rules) ↔ OutOfRange (start b n m r)
     unfolding start_step
     ranged_says b n m r =
         let out = unless (in_range_lem b n m r) in
@@ -82,7 +83,7 @@ module _ (bound : ℕ) (s : Transfer) where
     quiet c cs e other =
         ap (λ (st : Stepped). is_three st.answer) (step_is bound c s) ∙ (λ i. is_three (refuse (refused s) (e i) (goes_on c s)).answer) ∙ unbroken cs (goes_on c s) other (taken c s)
 
-    pub three : (c : Call) → ((step_of bound c s).answer ≡ Answer.Refused Refusal.Rules) ↔ OutOfRange c
+    pub three : (c : Call) → ((step_of bound c s).answer ≡ Err Refusal.Rules) ↔ OutOfRange c
     unfolding step_of causes_of
     three (start b n m r) = ranged_says b n m r
     three frame = none (quiet frame (drop 1 (frame_causes bound s)) refl (refl, (refl, (refl, (refl, tt)))))

@@ -1,5 +1,6 @@
 -- The words and the columns against the history: a call keeps the count of resends, the read offset and the balance point what the
 -- history says they are, and so each test that a step makes of the state is the history's. Assumes nothing.
+use Rattle.std.specs.Prelude.{Ok}
 use Prim.Native.Nat.{ℕ, suc, ◌-◌, ◌<◌}
 use mathlib.Core.Bool.{Bool, true, false, cond}
 use mathlib.Core.List.{List, [], ◌∷◌, ◌++◌}
@@ -125,7 +126,7 @@ module _ (bound : ℕ) (s : Transfer) (h : List Entry) (i : Inv bound s (view h)
       drain_word = by_test (Says ack) (eqb (s.unanswered - 1) 0) (λ t. rw (sym (nak_seen u) ∙ d, sym due_is ∙ t)) (λ t. rw (sym (nak_seen u) ∙ d, sym due_is ∙ t))
 
     module _ (d : draining s.phase ≡ false) where
-      run_tallies : Tallies s h ack (cond (eqb (s.unanswered - 1) 0) (settled (answered s)) (say Answer.Ok (answered s)))
+      run_tallies : Tallies s h ack (cond (eqb (s.unanswered - 1) 0) (settled (answered s)) (say (Ok Answer.Ok) (answered s)))
       unfolding settled
       run_tallies =
           by_test (Tallies s h ack) (eqb (s.unanswered - 1) 0)
@@ -142,7 +143,7 @@ module _ (bound : ℕ) (s : Transfer) (h : List Entry) (i : Inv bound s (view h)
             point = rw (sym (nak_seen u) ∙ d, sym due_is ∙ t) w.point;
           })
 
-      run_word : Says ack (cond (eqb (s.unanswered - 1) 0) (settled (answered s)) (say Answer.Ok (answered s)))
+      run_word : Says ack (cond (eqb (s.unanswered - 1) 0) (settled (answered s)) (say (Ok Answer.Ok) (answered s)))
       unfolding settled
       run_word =
           by_test (Says ack) (eqb (s.unanswered - 1) 0)
@@ -182,7 +183,7 @@ module _ (bound : ℕ) (s : Transfer) (h : List Entry) (i : Inv bound s (view h)
         by_test (Says nak) (leb s.resends s.used) (λ l. rw (sym (spent_is u) ∙ l))
         (λ l. by_test (Says nak) (eqb (s.unanswered - 1) 0) (λ t. rw (sym (spent_is u) ∙ l, sym due_is ∙ t)) (λ t. rw (sym (spent_is u) ∙ l, sym due_is ∙ t)))
 
-    drop_tallies : (c : Call) → Tallies s h c (finished Answer.Fail Phase.Fail s) → Tallies s h c (resent (none_left s)) → Tallies s h c (dropped s)
+    drop_tallies : (c : Call) → Tallies s h c (finished (Ok Answer.Fail) Phase.Fail s) → Tallies s h c (resent (none_left s)) → Tallies s h c (dropped s)
     unfolding dropped
     drop_tallies c fails again = by_test (Tallies s h c) (leb s.resends s.used) (λ l. fails) (λ l. again)
 
@@ -201,7 +202,7 @@ module _ (bound : ℕ) (s : Transfer) (h : List Entry) (i : Inv bound s (view h)
   pub tallies : (c : Call) → Tallies s h c (step_of bound c s)
   unfolding step_of start_step frame_step ack_step nak_step drop_step end_step
   tallies (start b n m r) =
-      by_causes (Tallies s h (start b n m r)) (refused s) (λ k. w) (start_causes bound b n m r s) (say Answer.Ok (started b n m r))
+      by_causes (Tallies s h (start b n m r)) (refused s) (λ k. w) (start_causes bound b n m r s) (say (Ok Answer.Ok) (started b n m r))
       (λ off. record { used = λ _. refl; ends = λ _. tt; point = refl })
   tallies frame =
       by_causes (Tallies s h frame) (refused s) (λ k. w) (frame_causes bound s) (framed (frame_length s) s)
@@ -222,7 +223,7 @@ module _ (bound : ℕ) (s : Transfer) (h : List Entry) (i : Inv bound s (view h)
 
   pub says : (c : Call) → SaysTaken c (step_of bound c s)
   unfolding step_of start_step frame_step ack_step nak_step drop_step end_step
-  says (start b n m r) = by_causes (SaysTaken (start b n m r)) (refused s) (not_taken (start b n m r)) (start_causes bound b n m r s) (say Answer.Ok (started b n m r)) (λ off e. refl)
+  says (start b n m r) = by_causes (SaysTaken (start b n m r)) (refused s) (not_taken (start b n m r)) (start_causes bound b n m r s) (say (Ok Answer.Ok) (started b n m r)) (λ off e. refl)
   says frame = by_causes (SaysTaken frame) (refused s) (not_taken frame) (frame_causes bound s) (framed (frame_length s) s) (λ off e. refl)
   says ack = answers (SaysTaken ack) (not_taken ack) (acked (answered s)) (λ u some e. ack_word u some)
   says nak = answers (SaysTaken nak) (not_taken nak) (nacked (answered s)) (λ u some e. nak_word u some)

@@ -1,5 +1,5 @@
 -- A call on a transfer, and what some calls leave. Assumes nothing.
-use Rattle.std.specs.Prelude.{ℕ, ◌≡◌, List, [], ◌∷◌, ◌⊎◌}
+use Rattle.std.specs.Prelude.{ℕ, ◌≡◌, List, [], ◌∷◌, ◌⊎◌, Ok}
 use Rattle.transfer.specs.Rules.{unstarted}
 use Rattle.transfer.specs.Steps.{start_step, frame_step, ack_step, nak_step, drop_step, end_step}
 use Rattle.transfer.specs.declared.Transfer.{Transfer}
@@ -32,7 +32,7 @@ pub record Left (bound : ℕ) (s : Transfer) : Type 0 where
   pub n : ℕ
   pub m : ℕ
   pub r : ℕ
-  pub taken : (start_step bound b n m r unstarted).answer ≡ Answer.Ok
+  pub taken : (start_step bound b n m r unstarted).answer ≡ Ok Answer.Ok
   pub calls : List Call
   pub leave : run bound calls (start_step bound b n m r unstarted).state ≡ s
 

@@ -1,6 +1,6 @@
 -- Demand 3, sentence by sentence: of a transfer s with the history h, and of one call more, answered `next`, that adds the entries es.
 -- Assumes nothing.
-use Rattle.std.specs.Prelude.{ℕ, ◌+◌, ◌≤◌, ◌<◌, true, false, List, [], ◌∷◌, ◌++◌, ◌≡◌, length}
+use Rattle.std.specs.Prelude.{ℕ, ◌+◌, ◌≤◌, ◌<◌, true, false, List, [], ◌∷◌, ◌++◌, ◌≡◌, length, Ok}
 use Rattle.transfer.specs.Rules.{end_of}
 use Rattle.transfer.specs.Steps.{unfinished}
 use Rattle.transfer.specs.History.{Frame, Entry, sent, view, Covered}
@@ -19,7 +19,7 @@ pub record Demand3 (bound : ℕ) (s : Transfer) (h es : List Entry) (next : Step
   -- if frames were sent in the present attempt and all were ACKed, it stands at the end of the last;
   pub settled : (f : Frame) (fs : List Frame) → (view h).attempt ≡ f ∷ fs → (view h).good ≡ (view h).attempt → s.balance ≡ f.at + f.len
   -- "delivered" is answered only once every requested byte was ACKed;
-  pub delivered : next.answer ≡ Answer.Done → (x : ℕ) → s.offset ≤ x → x < end_of s → Covered x (view (es ++ h)).acked
+  pub delivered : next.answer ≡ Ok Answer.Done → (x : ℕ) → s.offset ≤ x → x < end_of s → Covered x (view (es ++ h)).acked
   -- at most 64 frames are unanswered.
   pub few : length (view h).waiting ≤ bound
   -- Frames and answers are never matched by a short number."

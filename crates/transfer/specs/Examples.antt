@@ -1,5 +1,6 @@
 -- Document 01, 'Proved examples and traps': the lines of a listing; and STARTs at the ends of the ranges of 'Read transfer'. Assumes nothing.
-use Rattle.std.specs.Prelude.{ℕ, ◌+◌, List, [], ◌∷◌}
+use Rattle.refusals.specs.declared.Refusal.{Refusal}
+use Rattle.std.specs.Prelude.{ℕ, ◌+◌, List, [], ◌∷◌, Ok, Result}
 use Rattle.transfer.specs.Calls.{Call, start, frame, ack, nak, step_of}
 use Rattle.transfer.specs.declared.Transfer.{Transfer}
 use Rattle.transfer.specs.declared.Answer.{Answer}
@@ -7,13 +8,13 @@ use Rattle.transfer.specs.declared.Answer.{Answer}
 -- line number, word, read offset, balance, unanswered, resends used
 pub record Line : Type 0 where
   pub number : ℕ
-  pub word : Answer
+  pub word : Result Answer Refusal
   pub read : ℕ
   pub balance : ℕ
   pub unanswered : ℕ
   pub used : ℕ
 
-abbrev pub line : ℕ → Answer → ℕ → ℕ → ℕ → ℕ → Line
+abbrev pub line : ℕ → Result Answer Refusal → ℕ → ℕ → ℕ → ℕ → Line
 line number word read balance unanswered used =
     record { number = number; word = word; read = read; balance = balance; unanswered = unanswered; used = used }
 
@@ -31,15 +32,15 @@ listed = start 0 8 4 1 ∷ frame ∷ frame ∷ nak ∷ ack ∷ frame ∷ ack ∷
 -- and the whole output, as document 01 lists it
 abbrev pub output : List Line
 output =
-    line 1 Answer.Ok 0 0 0 0
-    ∷ line 2 Answer.Sent 4 0 1 0
-    ∷ line 3 Answer.Sent 8 0 2 0
-    ∷ line 4 Answer.Drain 8 0 1 0
-    ∷ line 5 Answer.Retry 0 0 0 1
-    ∷ line 6 Answer.Sent 4 0 1 1
-    ∷ line 7 Answer.Ok 4 4 0 1
-    ∷ line 8 Answer.Sent 8 4 1 1
-    ∷ line 9 Answer.Done 8 8 0 1
+    line 1 (Ok Answer.Ok) 0 0 0 0
+    ∷ line 2 (Ok Answer.Sent) 4 0 1 0
+    ∷ line 3 (Ok Answer.Sent) 8 0 2 0
+    ∷ line 4 (Ok Answer.Drain) 8 0 1 0
+    ∷ line 5 (Ok Answer.Retry) 0 0 0 1
+    ∷ line 6 (Ok Answer.Sent) 4 0 1 1
+    ∷ line 7 (Ok Answer.Ok) 4 4 0 1
+    ∷ line 8 (Ok Answer.Sent) 8 4 1 1
+    ∷ line 9 (Ok Answer.Done) 8 8 0 1
     ∷ []
 
 -- 01 READ.1

@@ -1,6 +1,7 @@
 -- Document 01, 'Read transfer': the history of a transfer, and what it says of the frames. It is read from the calls that were taken
 -- and from the frames that went alone: no state is read here, and of an answer only whether it is a refusal. Assumes nothing.
-use Rattle.std.specs.Prelude.{ℕ, suc, ◌+◌, ◌≤◌, ◌<◌, Bool, true, false, cond, ◌&&◌, List, [], ◌∷◌, ◌++◌, ◌⊎◌}
+use Rattle.refusals.specs.declared.Refusal.{Refusal}
+use Rattle.std.specs.Prelude.{ℕ, suc, ◌+◌, ◌≤◌, ◌<◌, Bool, true, false, cond, ◌&&◌, List, [], ◌∷◌, ◌++◌, ◌⊎◌, Err, Ok, Result}
 use Rattle.transfer.specs.Calls.{Call, start, frame, ack, nak, timeout, lost, nexus, cancel}
 use Rattle.transfer.specs.declared.Answer.{Answer}
 
@@ -28,18 +29,18 @@ entry_of lost f = was_lost
 entry_of nexus f = ended
 entry_of cancel f = ended
 
-abbrev pub is_refused : Answer → Bool
-is_refused Answer.Ok = false
-is_refused Answer.Sent = false
-is_refused Answer.Drain = false
-is_refused Answer.Retry = false
-is_refused Answer.Done = false
-is_refused Answer.Fail = false
-is_refused Answer.End = false
-is_refused (Answer.Refused k) = true
+abbrev pub is_refused : Result Answer Refusal → Bool
+is_refused (Ok Answer.Ok) = false
+is_refused (Ok Answer.Sent) = false
+is_refused (Ok Answer.Drain) = false
+is_refused (Ok Answer.Retry) = false
+is_refused (Ok Answer.Done) = false
+is_refused (Ok Answer.Fail) = false
+is_refused (Ok Answer.End) = false
+is_refused (Err k) = true
 
 -- what a call adds to the history, where f is the frame that it sent if it is a frame call; a refused call adds nothing
-abbrev pub entries : {F : Type 0} → Call → F → Answer → List (EntryOf F)
+abbrev pub entries : {F : Type 0} → Call → F → Result Answer Refusal → List (EntryOf F)
 entries c f a = cond (is_refused a) [] (entry_of c f ∷ [])
 
 -- what a history says of the frames of the transfer that its last START began

@@ -1,5 +1,5 @@
 -- Document 01, 'Read transfer': what each call answers and leaves, row by row, and when it is refused. Assumes nothing.
-use Rattle.std.specs.Prelude.{ℕ, ◌+◌, ◌-◌, min, Bool, true, false, not, cond, ◌||◌, List, [], ◌∷◌, leb, eqb}
+use Rattle.std.specs.Prelude.{ℕ, ◌+◌, ◌-◌, min, Bool, true, false, not, cond, ◌||◌, List, [], ◌∷◌, leb, eqb, Err, Ok, Result}
 use Rattle.refusals.specs.Causes.{Cause, ◌when◌, refuse}
 use Rattle.refusals.specs.declared.Refusal.{Refusal}
 use Rattle.transfer.specs.Rules.{end_of, in_range, keeps_rules}
@@ -13,12 +13,12 @@ abbrev pub limit : ℕ
 limit = 64
 
 -- 01 READ.4: The transfer state goes in and comes back by value at each step.
-abbrev pub say : Answer → Transfer → Stepped
+abbrev pub say : Result Answer Refusal → Transfer → Stepped
 say a s = record { answer = a; state = s }
 
 -- a refusal leaves the state as it was
 abbrev pub refused : Transfer → Refusal → Stepped
-refused s k = say (Answer.Refused k) s
+refused s k = say (Err k) s
 
 -- s with these in place of its own
 abbrev pub with : Transfer → ℕ → ℕ → ℕ → Bool → ℕ → Phase → Transfer
@@ -67,17 +67,17 @@ started b n m r =
 
 -- 01 READ.6: FRAME: written at the read offset, which moves past it; one more unanswered.
 abbrev pub framed : ℕ → Transfer → Stepped
-framed length s = say Answer.Sent (with s (s.read + length) s.balance (s.unanswered + 1) true s.used s.phase)
+framed length s = say (Ok Answer.Sent) (with s (s.read + length) s.balance (s.unanswered + 1) true s.used s.phase)
 
 -- 01 READ.14: Resend: read offset is the balance point, nothing is sent yet in the attempt, one resend more used.
 abbrev pub resent : Transfer → Stepped
-resent s = say Answer.Retry (with s s.balance s.balance s.unanswered false (s.used + 1) Phase.Run)
+resent s = say (Ok Answer.Retry) (with s s.balance s.balance s.unanswered false (s.used + 1) Phase.Run)
 
 abbrev pub none_left : Transfer → Transfer
 none_left s = with s s.read s.balance 0 s.sent s.used s.phase
 
 -- 01 READ.15: Finishing (done, failed, ended) sets unanswered to 0.
-abbrev pub finished : Answer → Phase → Transfer → Stepped
+abbrev pub finished : Result Answer Refusal → Phase → Transfer → Stepped
 finished a p s = say a (in_phase p (none_left s))
 
 -- 01 READ.8: ACK and NAK each leave one fewer unanswered; what isn't named here stays.
@@ -93,27 +93,27 @@ all_sent s = eqb s.read (end_of s)
 
 -- 01 READ.9: ACK, none left unanswered: balance is the read offset; at B+N: delivered.
 unfoldable pub settled : Transfer → Stepped
-settled s = cond (all_sent s) (finished Answer.Done Phase.Done (balanced s)) (say Answer.Ok (balanced s))
+settled s = cond (all_sent s) (finished (Ok Answer.Done) Phase.Done (balanced s)) (say (Ok Answer.Ok) (balanced s))
 
 -- after a NAK
 unfoldable pub drained : Transfer → Stepped
-drained s = cond (eqb s.unanswered 0) (resent s) (say Answer.Drain (in_phase Phase.Drain s))
+drained s = cond (eqb s.unanswered 0) (resent s) (say (Ok Answer.Drain) (in_phase Phase.Drain s))
 
 -- 01 READ.10: If a NAK was seen: resend instead.
 unfoldable pub acked : Transfer → Stepped
-acked s = cond (draining s.phase) (drained s) (cond (eqb s.unanswered 0) (settled s) (say Answer.Ok s))
+acked s = cond (draining s.phase) (drained s) (cond (eqb s.unanswered 0) (settled s) (say (Ok Answer.Ok) s))
 
 -- 01 READ.11: NAK: with R resends used, failed; else drain, and resend once none is unanswered.
 unfoldable pub nacked : Transfer → Stepped
-nacked s = cond (leb s.resends s.used) (finished Answer.Fail Phase.Fail s) (drained s)
+nacked s = cond (leb s.resends s.used) (finished (Ok Answer.Fail) Phase.Fail s) (drained s)
 
 -- 01 READ.12: TIMEOUT, LOST: drop unanswered frames; resend, or failed if R are used.
 unfoldable pub dropped : Transfer → Stepped
-dropped s = cond (leb s.resends s.used) (finished Answer.Fail Phase.Fail s) (resent (none_left s))
+dropped s = cond (leb s.resends s.used) (finished (Ok Answer.Fail) Phase.Fail s) (resent (none_left s))
 
 -- 01 READ.13: NEXUS, CANCEL: ended at once.
 abbrev pub ended : Transfer → Stepped
-ended s = finished Answer.End Phase.End s
+ended s = finished (Ok Answer.End) Phase.End s
 
 -- 01 REFUSAL.3: a setup number is out of range, or a lent state breaks its rules
 -- 01 REFUSAL.13: 6, exactly: a frame, answer (ACK, NAK, TIMEOUT, LOST), NEXUS or CANCEL before START or once finished; an answer with none unanswered; START in an unfinished transfer
@@ -142,7 +142,7 @@ abbrev pub end_causes : ℕ → Transfer → List Cause
 end_causes bound s = (Refusal.Rules when not (keeps_rules bound s)) ∷ (Refusal.Unfit when not (unfinished s.phase)) ∷ []
 
 unfoldable pub start_step : ℕ → ℕ → ℕ → ℕ → ℕ → Transfer → Stepped
-start_step bound b n m r s = refuse (refused s) (start_causes bound b n m r s) (say Answer.Ok (started b n m r))
+start_step bound b n m r s = refuse (refused s) (start_causes bound b n m r s) (say (Ok Answer.Ok) (started b n m r))
 
 unfoldable pub frame_step : ℕ → Transfer → Stepped
 frame_step bound s = refuse (refused s) (frame_causes bound s) (framed (frame_length s) s)

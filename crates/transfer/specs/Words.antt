@@ -1,6 +1,7 @@
 -- Document 01's words, columns and refusals a second time, by the history: from the numbers that the last START asked for, the frames and
 -- answers before a call, and the call itself. No state is read here. Assumes nothing.
-use Rattle.std.specs.Prelude.{ℕ, suc, ◌+◌, Bool, true, false, not, cond, ◌&&◌, ◌||◌, List, [], ◌∷◌, leb, eqb, length}
+use Rattle.refusals.specs.declared.Refusal.{Refusal}
+use Rattle.std.specs.Prelude.{ℕ, suc, ◌+◌, Bool, true, false, not, cond, ◌&&◌, ◌||◌, List, [], ◌∷◌, leb, eqb, length, Err, Ok, Result}
 use Rattle.refusals.specs.Refusals.{number_of}
 use Rattle.transfer.specs.Rules.{in_range}
 use Rattle.transfer.specs.Calls.{Call, start, frame, ack, nak, timeout, lost, nexus, cancel}
@@ -29,7 +30,7 @@ asked_by nexus a = a
 asked_by cancel a = a
 
 -- if it is taken
-abbrev pub asked_after : Call → Answer → Asked → Asked
+abbrev pub asked_after : Call → Result Answer Refusal → Asked → Asked
 asked_after c x a = cond (is_refused x) a (asked_by c a)
 
 -- one frame is unanswered, so that its answer leaves none
@@ -94,15 +95,15 @@ pub record Word : Type 0 where
   pub fail : Bool
   pub end : Bool
 
-abbrev pub word_of : Answer → Word
-word_of Answer.Ok = record { ok = true; sent = false; drain = false; retry = false; done = false; fail = false; end = false }
-word_of Answer.Sent = record { ok = false; sent = true; drain = false; retry = false; done = false; fail = false; end = false }
-word_of Answer.Drain = record { ok = false; sent = false; drain = true; retry = false; done = false; fail = false; end = false }
-word_of Answer.Retry = record { ok = false; sent = false; drain = false; retry = true; done = false; fail = false; end = false }
-word_of Answer.Done = record { ok = false; sent = false; drain = false; retry = false; done = true; fail = false; end = false }
-word_of Answer.Fail = record { ok = false; sent = false; drain = false; retry = false; done = false; fail = true; end = false }
-word_of Answer.End = record { ok = false; sent = false; drain = false; retry = false; done = false; fail = false; end = true }
-word_of (Answer.Refused k) = record { ok = false; sent = false; drain = false; retry = false; done = false; fail = false; end = false }
+abbrev pub word_of : Result Answer Refusal → Word
+word_of (Ok Answer.Ok) = record { ok = true; sent = false; drain = false; retry = false; done = false; fail = false; end = false }
+word_of (Ok Answer.Sent) = record { ok = false; sent = true; drain = false; retry = false; done = false; fail = false; end = false }
+word_of (Ok Answer.Drain) = record { ok = false; sent = false; drain = true; retry = false; done = false; fail = false; end = false }
+word_of (Ok Answer.Retry) = record { ok = false; sent = false; drain = false; retry = true; done = false; fail = false; end = false }
+word_of (Ok Answer.Done) = record { ok = false; sent = false; drain = false; retry = false; done = true; fail = false; end = false }
+word_of (Ok Answer.Fail) = record { ok = false; sent = false; drain = false; retry = false; done = false; fail = true; end = false }
+word_of (Ok Answer.End) = record { ok = false; sent = false; drain = false; retry = false; done = false; fail = false; end = true }
+word_of (Err k) = record { ok = false; sent = false; drain = false; retry = false; done = false; fail = false; end = false }
 
 -- R resends are used
 abbrev pub spent : Asked → List Entry → Bool
@@ -156,15 +157,15 @@ underway a (was_lost ∷ older) = not (spent a older)
 underway a (ended ∷ older) = false
 
 -- the number of a refusal, 0 where there is none
-abbrev pub refusal_of : Answer → ℕ
-refusal_of Answer.Ok = 0
-refusal_of Answer.Sent = 0
-refusal_of Answer.Drain = 0
-refusal_of Answer.Retry = 0
-refusal_of Answer.Done = 0
-refusal_of Answer.Fail = 0
-refusal_of Answer.End = 0
-refusal_of (Answer.Refused k) = number_of k
+abbrev pub refusal_of : Result Answer Refusal → ℕ
+refusal_of (Ok Answer.Ok) = 0
+refusal_of (Ok Answer.Sent) = 0
+refusal_of (Ok Answer.Drain) = 0
+refusal_of (Ok Answer.Retry) = 0
+refusal_of (Ok Answer.Done) = 0
+refusal_of (Ok Answer.Fail) = 0
+refusal_of (Ok Answer.End) = 0
+refusal_of (Err k) = number_of k
 
 -- 01 REFUSAL.6 01 REFUSAL.7 01 REFUSAL.8 01 REFUSAL.10 01 REFUSAL.13
 -- what a frame is refused for where at most `bound` frames may be unanswered, x where these causes do not hold

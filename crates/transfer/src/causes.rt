@@ -1,47 +1,45 @@
 // What a frame and an answer are refused for, in document 01's order.
 ghost use Rattle.std.specs.Prelude.{◌≡◌};
 ghost use Rattle.refusals.specs.Causes.{refuse};
-ghost use Rattle.refusals.specs.declared.Checked.{Checked};
 ghost use Rattle.transfer.specs.Steps.{limit, frame_causes, answer_causes};
 
 use crate::{BOUND, Transfer, steps};
-use refusals::{Checked, Refusal};
+use refusals::Refusal;
 
 impl Transfer {
     // What a frame is refused for.
-    pub(crate) fn frame_checked(self) -> Checked
-        ensures { result ≡ refuse Checked.Refused (frame_causes limit self) Checked.Passed }
+    pub(crate) fn frame_checked(self) -> Result<(), Refusal>
+        ensures { result ≡ refuse Err (frame_causes limit self) (Ok tt) }
     {
         if !self.keeps_rules(BOUND) {
-            return Checked::Refused(Refusal::Rules);
+            return Err(Refusal::Rules);
         }
-        let p = self.phase;
-        if !steps::unfinished(p) {
-            return Checked::Refused(Refusal::Unfit);
+        if !steps::unfinished(self.phase) {
+            return Err(Refusal::Unfit);
         }
-        if steps::draining(p) {
-            return Checked::Refused(Refusal::Due);
+        if steps::draining(self.phase) {
+            return Err(Refusal::Due);
         }
         if self.all_sent() {
-            return Checked::Refused(Refusal::Sent);
+            return Err(Refusal::Sent);
         }
         if BOUND <= self.unanswered {
-            return Checked::Refused(Refusal::Full);
+            return Err(Refusal::Full);
         }
-        Checked::Passed
+        Ok(())
     }
 
+    // `cancel` asks the rules and its own phase by itself: one function for both would take the test as an argument, and the rows name their own.
     // What ACK, NAK, TIMEOUT and LOST are refused for.
-    pub(crate) fn answer_checked(self) -> Checked
-        ensures { result ≡ refuse Checked.Refused (answer_causes limit self) Checked.Passed }
+    pub(crate) fn answer_checked(self) -> Result<(), Refusal>
+        ensures { result ≡ refuse Err (answer_causes limit self) (Ok tt) }
     {
         if !self.keeps_rules(BOUND) {
-            return Checked::Refused(Refusal::Rules);
+            return Err(Refusal::Rules);
         }
-        let p = self.phase;
-        if !steps::unfinished(p) | (self.unanswered == 0) {
-            return Checked::Refused(Refusal::Unfit);
+        if !steps::unfinished(self.phase) | (self.unanswered == 0) {
+            return Err(Refusal::Unfit);
         }
-        Checked::Passed
+        Ok(())
     }
 }

@@ -5,13 +5,13 @@ ghost use Rattle.std.specs.Prelude.{◌≡◌};
 ghost use Rattle.transfer.specs.Rules.{unstarted};
 ghost use Rattle.transfer.specs.Steps.{limit, start_step, frame_step, ack_step, nak_step, drop_step, end_step};
 
-use refusals::{Checked, Refusal};
+use refusals::Refusal;
 
 mod causes;
 mod rules;
 mod steps;
 
-#[derive(Clone, Copy)]
+#[derive(Clone, Copy, PartialEq, Eq)]
 pub enum Phase {
     // Before START.
     New,
@@ -28,7 +28,7 @@ pub enum Phase {
 }
 
 // What a call answers, in document 01's words.
-#[derive(Clone, Copy)]
+#[derive(Clone, Copy, PartialEq, Eq)]
 pub enum Answer {
     // START was taken, or an ACK that leaves the transfer in run.
     Ok,
@@ -42,10 +42,9 @@ pub enum Answer {
     Done,
     Fail,
     End,
-    Refused(Refusal),
 }
 
-#[derive(Clone, Copy)]
+#[derive(Clone, Copy, PartialEq, Eq)]
 pub struct Transfer {
     // B, where the request begins.
     pub offset: u32,
@@ -68,9 +67,10 @@ pub struct Transfer {
     pub phase: Phase,
 }
 
+// A struct and no Result: a refusal too gives back a state, that which was lent.
 #[derive(Clone, Copy)]
 pub struct Stepped {
-    pub answer: Answer,
+    pub answer: Result<Answer, Refusal>,
     pub state: Transfer,
 }
 
@@ -96,25 +96,25 @@ impl Transfer {
         }
     }
 
+    // START. Four numbers and no struct, which may not change: `start_step limit b n m r` takes them so.
     pub fn start(mut self, b: u32, n: u32, m: u32, r: u32) -> Stepped
         ensures { result ≡ start_step limit b n m r self }
     {
         if !rules::in_range(b, n, m, r) | !self.keeps_rules(BOUND) {
             return self.refused(Refusal::Rules);
         }
-        let p = self.phase;
-        if steps::unfinished(p) {
+        if steps::unfinished(self.phase) {
             return self.refused(Refusal::Unfit);
         }
-        self.offset = b;
-        self.count = n;
-        self.size = m;
-        self.resends = r;
-        self.read = b;
-        self.balance = b;
-        self.unanswered = 0;
-        self.sent = false;
-        self.used = 0;
+        self = Transfer {
+            offset: b,
+            count: n,
+            size: m,
+            resends: r,
+            read: b,
+            balance: b,
+            ..Transfer::unstarted()
+        };
         self.in_phase(Answer::Ok, Phase::Run)
     }
 
@@ -123,71 +123,52 @@ impl Transfer {
     pub fn frame(mut self) -> Stepped
         ensures { result ≡ frame_step limit self }
     {
-        let checked = self.frame_checked();
-        match checked {
-            Checked::Refused(k) => {
-                return self.refused(k);
-            }
-            Checked::Passed => {
-                self.read = self.read + self.frame_length();
-                self.unanswered = steps::one_more(self.unanswered);
-                self.sent = true;
-                return Stepped {
-                    answer: Answer::Sent,
-                    state: self,
-                };
-            }
+        if let Err(k) = self.frame_checked() {
+            return self.refused(k);
+        }
+        self.read += self.frame_length();
+        self.unanswered += 1;
+        self.sent = true;
+        Stepped {
+            answer: Ok(Answer::Sent),
+            state: self,
         }
     }
 
     pub fn ack(mut self) -> Stepped
         ensures { result ≡ ack_step limit self }
     {
-        let checked = self.answer_checked();
-        match checked {
-            Checked::Refused(k) => {
-                return self.refused(k);
-            }
-            Checked::Passed => {
-                self.unanswered = self.unanswered - 1;
-                return self.acked();
-            }
+        if let Err(k) = self.answer_checked() {
+            return self.refused(k);
         }
+        self.unanswered -= 1;
+        self.acked()
     }
 
     pub fn nak(mut self) -> Stepped
         ensures { result ≡ nak_step limit self }
     {
-        let checked = self.answer_checked();
-        match checked {
-            Checked::Refused(k) => {
-                return self.refused(k);
-            }
-            Checked::Passed => {
-                self.unanswered = self.unanswered - 1;
-                return self.nacked();
-            }
+        if let Err(k) = self.answer_checked() {
+            return self.refused(k);
         }
+        self.unanswered -= 1;
+        self.nacked()
     }
 
     pub fn timeout(mut self) -> Stepped
         ensures { result ≡ drop_step limit self }
     {
-        let checked = self.answer_checked();
-        match checked {
-            Checked::Refused(k) => {
-                return self.refused(k);
-            }
-            Checked::Passed => {
-                self.unanswered = 0;
-                if self.resends <= self.used {
-                    return self.in_phase(Answer::Fail, Phase::Fail);
-                }
-                return self.resent();
-            }
+        if let Err(k) = self.answer_checked() {
+            return self.refused(k);
         }
+        self.unanswered = 0;
+        if self.resends <= self.used {
+            return self.in_phase(Answer::Fail, Phase::Fail);
+        }
+        self.resent()
     }
 
+    // A lost connection: another word of document 01 for what `timeout` does.
     pub fn lost(self) -> Stepped
         ensures { result ≡ drop_step limit self }
     {
@@ -200,14 +181,14 @@ impl Transfer {
         if !self.keeps_rules(BOUND) {
             return self.refused(Refusal::Rules);
         }
-        let p = self.phase;
-        if !steps::unfinished(p) {
+        if !steps::unfinished(self.phase) {
             return self.refused(Refusal::Unfit);
         }
         self.unanswered = 0;
         self.in_phase(Answer::End, Phase::End)
     }
 
+    // NEXUS: another word of document 01 for what `cancel` does.
     pub fn nexus(self) -> Stepped
         ensures { result ≡ end_step limit self }
     {

@@ -1,6 +1,6 @@
 // The numbers that START takes, and the test of a lent state, rule by rule.
 ghost use Rattle.std.specs.Prelude.{◌≡◌, ◌≤◌};
-ghost use Rattle.transfer.specs.Rules.{end_of, in_range, is_new, zeros, ordered, on_grid, placed, frames_out, attempted, run_rule, drain_rule, done_rule, fail_rule, end_rule, phase_rule, keeps_rules};
+ghost use Rattle.transfer.specs.Rules.{end_of, in_range, zeros, ordered, on_grid, placed, frames_out, attempted, run_rule, drain_rule, done_rule, fail_rule, end_rule, phase_rule, keeps_rules};
 
 use crate::{Phase, Transfer};
 
@@ -8,21 +8,8 @@ use crate::{Phase, Transfer};
 pub(crate) fn in_range(b: u32, n: u32, m: u32, r: u32) -> bool
     ensures { result ≡ in_range b n m r }
 {
-    let end = b as u64 + n as u64;
+    let end = u64::from(b) + u64::from(n);
     (1 <= n) & ((end <= 0xffffffff) & ((m % 4 == 0) & ((4 <= m) & ((m <= 1024) & (r <= 255)))))
-}
-
-fn is_new(p: Phase) -> bool
-    ensures { result ≡ is_new p }
-{
-    match p {
-        Phase::New => true,
-        Phase::Run => false,
-        Phase::Drain => false,
-        Phase::Done => false,
-        Phase::Fail => false,
-        Phase::End => false,
-    }
 }
 
 impl Transfer {
@@ -30,22 +17,14 @@ impl Transfer {
     pub(crate) fn end(self) -> u64
         ensures { result ≡ end_of self }
     {
-        self.offset as u64 + self.count as u64
+        u64::from(self.offset) + u64::from(self.count)
     }
 
+    // Whether it is the state before START.
     fn zeros(self) -> bool
         ensures { result ≡ zeros self }
     {
-        let p = self.phase;
-        let new = is_new(p);
-        (self.offset == 0)
-            & ((self.count == 0)
-                & ((self.size == 0)
-                    & ((self.resends == 0)
-                        & ((self.read == 0)
-                            & ((self.balance == 0)
-                                & ((self.unanswered == 0)
-                                    & (!self.sent & ((self.used == 0) & new))))))))
+        self == Transfer::unstarted()
     }
 
     fn ordered(self, end: u64) -> bool
@@ -53,7 +32,7 @@ impl Transfer {
     {
         (self.offset <= self.balance)
             & ((self.balance <= self.read)
-                & ((self.read as u64 <= end) & (self.used <= self.resends)))
+                & ((u64::from(self.read) <= end) & (self.used <= self.resends)))
     }
 
     // Whether x is where a frame begins, or the end.
@@ -61,7 +40,7 @@ impl Transfer {
         requires { (4 ≤ self.size) × (self.offset ≤ x) }
         ensures { result ≡ on_grid end self x }
     {
-        (x as u64 == end) | ((x - self.offset) % self.size == 0)
+        (u64::from(x) == end) | ((x - self.offset) % self.size == 0)
     }
 
     // What holds from START on.
@@ -79,7 +58,7 @@ impl Transfer {
         requires { (4 ≤ self.size) × (self.balance ≤ self.read) }
         ensures { result ≡ frames_out self }
     {
-        ((self.read - self.balance) as u64 + (self.size as u64 - 1)) / self.size as u64
+        (u64::from(self.read - self.balance) + (u64::from(self.size) - 1)) / u64::from(self.size)
     }
 
     fn attempted(self, out: u64) -> bool
@@ -95,34 +74,34 @@ impl Transfer {
         ensures { result ≡ run_rule bound end out self }
     {
         let attempted = self.attempted(out);
-        ((self.balance as u64) < end)
+        (u64::from(self.balance) < end)
             & (attempted
                 & (((out == 0) & (self.unanswered == 0))
                     | ((0 < self.unanswered)
-                        & ((self.unanswered <= bound) & (self.unanswered as u64 <= out)))))
+                        & ((self.unanswered <= bound) & (u64::from(self.unanswered) <= out)))))
     }
 
     fn drain_rule(self, bound: u32, end: u64, out: u64) -> bool
         ensures { result ≡ drain_rule bound end out self }
     {
-        ((self.balance as u64) < end)
+        (u64::from(self.balance) < end)
             & (self.sent
                 & ((self.used < self.resends)
                     & ((0 < self.unanswered)
-                        & ((self.unanswered < bound) & ((self.unanswered as u64) < out)))))
+                        & ((self.unanswered < bound) & (u64::from(self.unanswered) < out)))))
     }
 
     fn done_rule(self, end: u64) -> bool
         ensures { result ≡ done_rule end self }
     {
-        (self.balance as u64 == end)
-            & ((self.read as u64 == end) & ((self.unanswered == 0) & self.sent))
+        (u64::from(self.balance) == end)
+            & ((u64::from(self.read) == end) & ((self.unanswered == 0) & self.sent))
     }
 
     fn fail_rule(self, end: u64, out: u64) -> bool
         ensures { result ≡ fail_rule end out self }
     {
-        ((self.balance as u64) < end)
+        (u64::from(self.balance) < end)
             & (self.sent & ((self.used == self.resends) & ((self.unanswered == 0) & (0 < out))))
     }
 
@@ -130,35 +109,23 @@ impl Transfer {
         ensures { result ≡ end_rule end out self }
     {
         let attempted = self.attempted(out);
-        ((self.balance as u64) < end) & (attempted & (self.unanswered == 0))
+        (u64::from(self.balance) < end) & (attempted & (self.unanswered == 0))
     }
 
     fn phase_rule(self, bound: u32, end: u64, out: u64) -> bool
         ensures { result ≡ phase_rule bound end out self.phase self }
     {
-        let p = self.phase;
-        match p {
-            Phase::New => {
-                return false;
-            }
-            Phase::Run => {
-                return self.run_rule(bound, end, out);
-            }
-            Phase::Drain => {
-                return self.drain_rule(bound, end, out);
-            }
-            Phase::Done => {
-                return self.done_rule(end);
-            }
-            Phase::Fail => {
-                return self.fail_rule(end, out);
-            }
-            Phase::End => {
-                return self.end_rule(end, out);
-            }
+        match self.phase {
+            Phase::New => false,
+            Phase::Run => self.run_rule(bound, end, out),
+            Phase::Drain => self.drain_rule(bound, end, out),
+            Phase::Done => self.done_rule(end),
+            Phase::Fail => self.fail_rule(end, out),
+            Phase::End => self.end_rule(end, out),
         }
     }
 
+    // Tested at each call, and no invariant of the type: C lends the state, and one that breaks the rules is refused.
     // Whether the state is that before START, or some START and calls after it leave it, where at most `bound` frames, 2 or more, may
     // be unanswered.
     pub fn keeps_rules(self, bound: u32) -> bool

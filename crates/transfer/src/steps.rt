@@ -1,56 +1,22 @@
 // What a call does that is not refused, row by row.
-ghost use Rattle.std.specs.Prelude.{◌≡◌, true, ◌+◌, ◌-◌, ◌<◌, min};
+ghost use Rattle.std.specs.Prelude.{◌≡◌, true, ◌<◌};
 ghost use Rattle.transfer.specs.Steps.{say, in_phase, frame_length, all_sent};
 ghost use Rattle.transfer.specs.Steps as steps;
 
 use crate::{Answer, Phase, Stepped, Transfer};
 use refusals::Refusal;
 
+// Whether calls are still taken: a frame, an answer, or the end.
 pub(crate) fn unfinished(p: Phase) -> bool
     ensures { result ≡ steps.unfinished p }
 {
-    match p {
-        Phase::New => false,
-        Phase::Run => true,
-        Phase::Drain => true,
-        Phase::Done => false,
-        Phase::Fail => false,
-        Phase::End => false,
-    }
+    matches!(p, Phase::Run | Phase::Drain)
 }
 
 pub(crate) fn draining(p: Phase) -> bool
     ensures { result ≡ steps.draining p }
 {
-    match p {
-        Phase::New => false,
-        Phase::Run => false,
-        Phase::Drain => true,
-        Phase::Done => false,
-        Phase::Fail => false,
-        Phase::End => false,
-    }
-}
-
-fn lesser(a: u64, b: u64) -> u64
-    ensures { result ≡ min a b }
-{
-    if a < b { a } else { b }
-}
-
-// a - b, or 0.
-fn minus(a: u64, b: u64) -> u64
-    ensures { result ≡ a - b }
-{
-    if a < b { 0 } else { a - b }
-}
-
-// One frame more that is unanswered.
-pub(crate) fn one_more(x: u32) -> u32
-    requires { x < 4294967295 }
-    ensures { result ≡ x + 1 }
-{
-    x + 1
+    matches!(p, Phase::Drain)
 }
 
 impl Transfer {
@@ -58,8 +24,8 @@ impl Transfer {
     pub fn frame_length(self) -> u32
         ensures { result ≡ frame_length self }
     {
-        let left = minus(self.end(), self.read as u64);
-        lesser(self.size as u64, left) as u32
+        let left = self.end().saturating_sub(u64::from(self.read));
+        u64::from(self.size).min(left) as u32
     }
 
     // A refusal, which leaves the state as it was.
@@ -67,32 +33,22 @@ impl Transfer {
         ensures { result ≡ steps.refused self k }
     {
         Stepped {
-            answer: Answer::Refused(k),
+            answer: Err(k),
             state: self,
         }
     }
 
     // An answer, with the state in another phase.
     pub(crate) fn in_phase(self, answer: Answer, p: Phase) -> Stepped
-        ensures { result ≡ say answer (in_phase p self) }
+        ensures { result ≡ say (Ok answer) (in_phase p self) }
     {
         Stepped {
-            answer,
-            state: Transfer {
-                offset: self.offset,
-                count: self.count,
-                size: self.size,
-                resends: self.resends,
-                read: self.read,
-                balance: self.balance,
-                unanswered: self.unanswered,
-                sent: self.sent,
-                used: self.used,
-                phase: p,
-            },
+            answer: Ok(answer),
+            state: Transfer { phase: p, ..self },
         }
     }
 
+    // A struct with used < resends as its invariant would be longer than the clause, which stands here, in `drained`, and under a condition in `acked`.
     // The attempt begins anew at the balance point.
     pub(crate) fn resent(mut self) -> Stepped
         requires { self.used < self.resends }
@@ -100,7 +56,7 @@ impl Transfer {
     {
         self.read = self.balance;
         self.sent = false;
-        self.used = self.used + 1;
+        self.used += 1;
         self.in_phase(Answer::Retry, Phase::Run)
     }
 
@@ -108,7 +64,7 @@ impl Transfer {
     pub(crate) fn all_sent(self) -> bool
         ensures { result ≡ all_sent self }
     {
-        self.read as u64 == self.end()
+        u64::from(self.read) == self.end()
     }
 
     // The last ACK that was due.
@@ -122,7 +78,7 @@ impl Transfer {
             return self.in_phase(Answer::Done, Phase::Done);
         }
         Stepped {
-            answer: Answer::Ok,
+            answer: Ok(Answer::Ok),
             state: self,
         }
     }
@@ -143,15 +99,14 @@ impl Transfer {
         requires { steps.draining self.phase ≡ true → self.used < self.resends }
         ensures { result ≡ steps.acked self }
     {
-        let p = self.phase;
-        if draining(p) {
+        if draining(self.phase) {
             return self.drained();
         }
         if self.unanswered == 0 {
             return self.settled();
         }
         Stepped {
-            answer: Answer::Ok,
+            answer: Ok(Answer::Ok),
             state: self,
         }
     }

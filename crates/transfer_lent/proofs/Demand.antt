@@ -1,4 +1,5 @@
 -- What demand 3 says of a transfer it says of the numbers by which the transfer is shown. Assumes nothing.
+use Rattle.std.specs.Prelude.{Ok}
 use Prim.Native.Nat.{ℕ, ◌+◌, ◌*◌, ◌≤◌, ◌<◌}
 use mathlib.Core.Bool.{true, false, cond}
 use mathlib.Core.List.{List, [], ◌∷◌, ◌++◌, map}
@@ -53,7 +54,7 @@ demand_shown t h es st d = record {
   sure = d.sure;
   resend = d.resend;
   settled = d.settled;
-  delivered = λ e. d.delivered (one_answer st.answer Answer.Done e);
+  delivered = λ e. d.delivered (one_answer st.answer (Ok Answer.Done) e);
   few = d.few;
   counted = λ u. d.counted (is_unfinished t u);
   over = λ off. d.over (is_over t.phase off);
@@ -103,7 +104,7 @@ module _ (cs : List Call) (c : Call) (typed : AllTyped cs) (one : Typed c) where
 
   pub image_seen : (image : List ℕ) → AllFromImage image cs zeros → sent.FromImage image (call_of c) (state_of s) → (face_of c s).answer ≡ 19 → (x : ℕ) → s.offset ≤ x → x < s.offset + s.count → sent.Shown image x (view (entries_of c s ++ history cs zeros [])).acked
   image_seen image given this e x from to =
-      let done = one_answer (sending.step_of limit (call_of c) before).answer Answer.Done (ap (λ (r : Step). r.answer) (sym answer_is) ∙ e) in
+      let done = one_answer (sending.step_of limit (call_of c) before).answer (Ok Answer.Done) (ap (λ (r : Step). r.answer) (sym answer_is) ∙ e) in
       let lent = subst (sent.FromImage image (call_of c)) (ap state_of state_is ∙ shown_back before) this in
       transport⁻¹ (λ i. sent.Shown image x (view (added_is i ++ past_is i)).acked)
       (delivered image limit (map call_of cs) (call_of c) typed one (image_calls image cs unstarted given) lent done x (subst (λ (u : State). u.offset ≤ x) state_is from) (subst (λ (u : State). x < u.offset + u.count) state_is to))

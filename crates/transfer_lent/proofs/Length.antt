@@ -1,6 +1,7 @@
 -- FRAME answers 16 exactly if nothing refuses it, by the verdict of its causes, and then a byte is left to send. Assumes nothing.
 use Prim.Native.Nat.{ℕ, ◌<◌}
-use mathlib.Core.Bool.{true, false}
+use mathlib.Core.Bool.{Bool, true, false}
+use Rattle.std.specs.Result.{is_ok}
 use mathlib.Core.List.{List}
 use mathlib.Core.Logic.{◌↔◌}
 use mathlib.Core.Path.{◌≡◌, sym, ap, ◌∙◌}
@@ -10,9 +11,7 @@ use lib.Dec.{eqb}
 use lib.ListN.{length}
 use Rattle.laws.proofs.Bools.{never, and_left}
 use Rattle.refusals.specs.Causes.{refuse}
-use Rattle.refusals.specs.Refusals.{number_of}
 use Rattle.refusals.proofs.Causes.{NoneGiven, Verdict, stopped, passes, verdict, through, none_append, unrefused}
-use Rattle.refusals.proofs.Numbers.{range}
 use Rattle.transfer.specs.Rules.{end_of, keeps_rules}
 use Rattle.transfer.specs.Steps.{limit, unfinished, frame_length, frame_causes, frame_step, framed, refused}
 use Rattle.transfer.specs.History.{is_refused}
@@ -23,29 +22,28 @@ use Rattle.ssp_frame.specs.Data.{data_listed}
 use Rattle.ssp_frame.specs.declared.data.DataHead.{DataHead}
 use Rattle.send.specs.Send.{fitting, next_causes, next_step}
 use Rattle.send.proofs.Laws.{own}
-use Rattle.transfer_lent.specs.Numbers.{answer_number}
 use Rattle.transfer_lent.specs.Lent.{next_length}
 
 module _ (t : Transfer) where
-  frame_number : answer_number (frame_step limit t).answer ≡ refuse number_of (frame_causes limit t) 16
+  frame_goes : is_ok (frame_step limit t).answer ≡ refuse (λ _. false) (frame_causes limit t) true
   unfolding frame_step
-  frame_number = through (λ (r : Stepped). answer_number r.answer) (refused t) (frame_causes limit t) (framed (frame_length t) t)
+  frame_goes = through (λ (r : Stepped). is_ok r.answer) (refused t) (frame_causes limit t) (framed (frame_length t) t)
 
-  pub sends : answer_number (frame_step limit t).answer ≡ 16 → frame_length t ≡ next_length limit t
+  pub sends : is_ok (frame_step limit t).answer ≡ true → frame_length t ≡ next_length limit t
   unfolding next_length
   sends e = by (verdict (frame_causes limit t))
     where
       by : Verdict (frame_causes limit t) → frame_length t ≡ next_length limit t
-      by (stopped k h) = let r = range k in let n = sym (h ℕ number_of 16) ∙ (sym frame_number ∙ e) in absurd (omega (arith, r, n))
+      by (stopped k h) = absurd (never (sym (h Bool (λ _. false) true) ∙ sym frame_goes ∙ e))
       by (passes off h) = sym (h ℕ (λ _. 0) (frame_length t))
 
-  pub stays : (answer_number (frame_step limit t).answer ≡ 16 → ⊥) → 0 ≡ next_length limit t
+  pub stays : is_ok (frame_step limit t).answer ≡ false → 0 ≡ next_length limit t
   unfolding next_length
   stays off = by (verdict (frame_causes limit t))
     where
       by : Verdict (frame_causes limit t) → 0 ≡ next_length limit t
       by (stopped k h) = sym (h ℕ (λ _. 0) (frame_length t))
-      by (passes clear h) = absurd (off (frame_number ∙ h ℕ number_of 16))
+      by (passes clear h) = absurd (never (sym off ∙ frame_goes ∙ h Bool (λ _. false) true))
 
   pub sent_length : is_refused (frame_step limit t).answer ≡ false → next_length limit t ≡ frame_length t
   unfolding next_length frame_step

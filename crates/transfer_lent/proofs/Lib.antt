@@ -3,8 +3,6 @@ pub mod Trips
 pub mod Typed
 pub mod Members
 mod Length
-pub mod Seen
-mod Saving
 pub mod Runs
 pub mod Demand
 pub mod Reach

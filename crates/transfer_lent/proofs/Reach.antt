@@ -1,5 +1,6 @@
 -- Numbers that C lends are those that some calls gave back exactly if they name a transfer that passes the exact test: what is shown is read back,
 -- and the transfer's own calls are C's. Assumes nothing.
+use Rattle.std.specs.Prelude.{Err}
 use Prim.Native.Nat.{ℕ}
 use mathlib.Core.Bool.{Bool, true, false, not, cond}
 use mathlib.Core.List.{List, [], ◌∷◌, map}
@@ -13,7 +14,6 @@ use Rattle.transfer.specs.Rules.{unstarted, in_range, keeps_rules}
 use Rattle.transfer.specs.Steps.{limit, start_step, frame_step, ack_step, nak_step, drop_step, end_step}
 use Rattle.transfer.specs.Calls as machine
 use Rattle.transfer.specs.Grounds.{OutOfRange}
-use Rattle.transfer.specs.declared.Answer.{Answer}
 use Rattle.transfer.specs.declared.Transfer.{Transfer}
 use Rattle.transfer.proofs.Exact.{exact}
 use Rattle.transfer.proofs.Stuck.{unstuck}
@@ -113,7 +113,7 @@ good_reached s on kept = subst Reached (formed_back s on) (reached_shown (state_
 -- ---- refusal 3
 
 -- a state that breaks its rules is refused with 3 by every call
-broken_three : (c : Call) (t : Transfer) → keeps_rules limit t ≡ false → (sending.step_of limit (call_of c) t).answer ≡ Answer.Refused Refusal.Rules
+broken_three : (c : Call) (t : Transfer) → keeps_rules limit t ≡ false → (sending.step_of limit (call_of c) t).answer ≡ Err Refusal.Rules
 unfolding machine.step_of start_step frame_step ack_step nak_step drop_step end_step next_step
 broken_three (start b n m r) t off = rw (or_right (not (in_range b n m r)) (ap not off))
 broken_three frame t off = rw off
@@ -145,7 +145,7 @@ module _ (c : Call) (s : State) where
       by true on true kept =
           let three = three_either limit (state_of s) kept (call_of c) in
           let a = (sending.step_of limit (call_of c) (state_of s)).answer in (
-            λ e. inl (three.0 (one_answer a (Answer.Refused Refusal.Rules) (sym (answer_on on) ∙ e))),
+            λ e. inl (three.0 (one_answer a (Err Refusal.Rules) (sym (answer_on on) ∙ e))),
             out on kept,
           )
         where

@@ -1,5 +1,7 @@
 -- C's calls are the transfer's calls on what is shown: a state that was shown is read back as it was, so each call gives back the next one shown,
 -- and its answer, its bytes and its frame say the same. Assumes nothing.
+use Rattle.refusals.specs.declared.Refusal.{Refusal}
+use Rattle.std.specs.Prelude.{Err, Ok, Result}
 use Prim.Native.Nat.{ℕ}
 use mathlib.Core.Bool.{Bool, false, cond}
 use mathlib.Core.List.{List, [], ◌∷◌, ◌++◌, map}
@@ -57,15 +59,15 @@ run_shown [] t = refl
 run_shown (c ∷ cs) t = ap (λ (r : Step). run cs r.state) (step_shown c t) ∙ run_shown cs (sending.step_of limit (call_of c) t).state
 
 -- a refusal is told by its number
-pub refusal_told : (a : Answer) → is_refusal (answer_number a) ≡ is_refused a
-refusal_told Answer.Ok = refl
-refusal_told Answer.Sent = refl
-refusal_told Answer.Drain = refl
-refusal_told Answer.Retry = refl
-refusal_told Answer.Done = refl
-refusal_told Answer.Fail = refl
-refusal_told Answer.End = refl
-refusal_told (Answer.Refused k) =
+pub refusal_told : (a : Result Answer Refusal) → is_refusal (answer_number a) ≡ is_refused a
+refusal_told (Ok Answer.Ok) = refl
+refusal_told (Ok Answer.Sent) = refl
+refusal_told (Ok Answer.Drain) = refl
+refusal_told (Ok Answer.Retry) = refl
+refusal_told (Ok Answer.Done) = refl
+refusal_told (Ok Answer.Fail) = refl
+refusal_told (Ok Answer.End) = refl
+refusal_told (Err k) =
     let r = range k in
     and_true (lt-ltb 0 (number_of k) (omega (arith, r))) (lt-ltb (number_of k) 11 (omega (arith, r)))
 

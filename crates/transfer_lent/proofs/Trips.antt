@@ -1,4 +1,5 @@
 -- Each phase's number is its place in the list; an answer that is no refusal is found by its number, which no refusal has. Assumes nothing.
+use Rattle.std.specs.Prelude.{Err, Ok, Result}
 use Prim.Native.Nat.{ℕ, ◌<◌}
 use mathlib.Core.Bool.{cond}
 use mathlib.Core.List.{List, [], ◌∷◌}
@@ -13,7 +14,7 @@ use Rattle.refusals.specs.declared.Refusal.{Refusal}
 use Rattle.refusals.proofs.Numbers.{one_number, range}
 use Rattle.transfer.specs.declared.Phase.{Phase}
 use Rattle.transfer.specs.declared.Answer.{Answer}
-use Rattle.transfer.specs.declared.Answer.TheVariants.{Ok, Sent, Drain, Retry, Done, Fail, End, Refused}
+use Rattle.transfer.specs.declared.Answer.TheVariants.{Sent, Drain, Retry, Done, Fail, End}
 use Rattle.transfer_lent.specs.Numbers.{phase_number, phases, phase_of, answer_number}
 
 pub phase_back : (p : Phase) → (phase_number p < 6) × (phase_of (phase_number p) ≡ p)
@@ -34,42 +35,42 @@ pub phase_named : Named (λ (n : ℕ) (p : Phase). (n < 6) × (phase_of n ≡ p)
 phase_named = in_list phase_number phases Phase.End phases_placed phase_back
 
 -- the one of these that has the number n
-abbrev numbered_by : List Answer → ℕ → Answer
-numbered_by [] n = Ok
+abbrev numbered_by : List (Result Answer Refusal) → ℕ → Result Answer Refusal
+numbered_by [] n = Ok Answer.Ok
 numbered_by (a ∷ rest) n = cond (eqb (answer_number a) n) a (numbered_by rest n)
 
 -- whatever is no refusal
-abbrev happened : ℕ → Answer
-happened n = numbered_by (Ok ∷ Sent ∷ Drain ∷ Retry ∷ Done ∷ Fail ∷ End ∷ []) n
+abbrev happened : ℕ → Result Answer Refusal
+happened n = numbered_by ((Ok Answer.Ok) ∷ (Ok Sent) ∷ (Ok Drain) ∷ (Ok Retry) ∷ (Ok Done) ∷ (Ok Fail) ∷ (Ok End) ∷ []) n
 
 -- an answer is a refusal, or is found at its number, which no refusal has
-pub data Told : Answer → Type 0 where
-  refusal : (k : Refusal) → Told (Refused k)
-  none : (a : Answer) → ((k : Refusal) → answer_number a ≡ number_of k → ⊥) → happened (answer_number a) ≡ a → Told a
+pub data Told : Result Answer Refusal → Type 0 where
+  refusal : (k : Refusal) → Told (Err k)
+  none : (a : Result Answer Refusal) → ((k : Refusal) → answer_number a ≡ number_of k → ⊥) → happened (answer_number a) ≡ a → Told a
 
 no_refusal : {n : ℕ} → 10 < n → (k : Refusal) → n ≡ number_of k → ⊥
 no_refusal l k e = let r = range k in omega (arith, r, l, e)
 
-pub answer_told : (a : Answer) → Told a
-answer_told Ok = none Ok (λ k e. let r = range k in omega (arith, r, e)) refl
-answer_told Sent = none Sent (no_refusal (omega arith)) refl
-answer_told Drain = none Drain (no_refusal (omega arith)) refl
-answer_told Retry = none Retry (no_refusal (omega arith)) refl
-answer_told Done = none Done (no_refusal (omega arith)) refl
-answer_told Fail = none Fail (no_refusal (omega arith)) refl
-answer_told End = none End (no_refusal (omega arith)) refl
-answer_told (Refused k) = refusal k
+pub answer_told : (a : Result Answer Refusal) → Told a
+answer_told (Ok Answer.Ok) = none (Ok Answer.Ok) (λ k e. let r = range k in omega (arith, r, e)) refl
+answer_told (Ok Sent) = none (Ok Sent) (no_refusal (omega arith)) refl
+answer_told (Ok Drain) = none (Ok Drain) (no_refusal (omega arith)) refl
+answer_told (Ok Retry) = none (Ok Retry) (no_refusal (omega arith)) refl
+answer_told (Ok Done) = none (Ok Done) (no_refusal (omega arith)) refl
+answer_told (Ok Fail) = none (Ok Fail) (no_refusal (omega arith)) refl
+answer_told (Ok End) = none (Ok End) (no_refusal (omega arith)) refl
+answer_told (Err k) = refusal k
 
 -- no two answers share a number
-pub one_answer : (a b : Answer) → answer_number a ≡ answer_number b → a ≡ b
+pub one_answer : (a b : Result Answer Refusal) → answer_number a ≡ answer_number b → a ≡ b
 one_answer a b e = both (answer_told a) (answer_told b) e
   where
-    both : {a b : Answer} → Told a → Told b → answer_number a ≡ answer_number b → a ≡ b
-    both (refusal j) (refusal k) e = ap Refused (one_number j k e)
+    both : {a b : Result Answer Refusal} → Told a → Told b → answer_number a ≡ answer_number b → a ≡ b
+    both (refusal j) (refusal k) e = ap Err (one_number j k e)
     both (refusal j) (none b off q) e = absurd (off j (sym e))
     both (none a off p) (refusal k) e = absurd (off k e)
     both (none a off p) (none b on q) e = sym p ∙ ap happened e ∙ q
 
 -- a refusal is told by its number
-pub refused_told : (a : Answer) (k : Refusal) → answer_number a ≡ number_of k → a ≡ Refused k
-refused_told a k e = one_answer a (Refused k) e
+pub refused_told : (a : Result Answer Refusal) (k : Refusal) → answer_number a ≡ number_of k → a ≡ Err k
+refused_told a k e = one_answer a (Err k) e

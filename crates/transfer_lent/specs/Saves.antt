@@ -1,8 +1,7 @@
 -- Request a) as C sees it: a form that is not written is refused, and a state whose numbers name no transfer breaks its rules. Assumes nothing.
-use Rattle.std.specs.Prelude.{ℕ, ◌<◌, not, ◌&&◌, List, [], ◌∷◌, ◌≡◌, ltb, eqb, length}
+use Rattle.std.specs.Prelude.{ℕ, ◌<◌, not, ◌&&◌, List, [], ◌∷◌, ◌≡◌, ltb, eqb, length, Err, Ok, Result}
 use Rattle.refusals.specs.Causes.{Cause, ◌when◌, Ground, ◌if◌, refuse}
 use Rattle.refusals.specs.Refusals.{number_of}
-use Rattle.refusals.specs.declared.Checked.{Checked}
 use Rattle.refusals.specs.declared.Refusal.{Refusal}
 use Rattle.transfer.specs.Rules.{keeps_rules}
 use Rattle.transfer.specs.Steps.{limit}
@@ -16,9 +15,9 @@ use Rattle.transfer_lent.specs.declared.State.{State}
 use Rattle.transfer_lent.specs.declared.Step.{Step}
 
 -- 0, or the refusal's number
-abbrev pub checked_number : Checked → ℕ
-checked_number Checked.Passed = 0
-checked_number (Checked.Refused k) = number_of k
+abbrev pub checked_number : Result (Unit {0}) Refusal → ℕ
+checked_number (Ok tt) = 0
+checked_number (Err k) = number_of k
 
 -- 01 REFUSAL.1 01 REFUSAL.2 01 REFUSAL.3 01 REFUSAL.11
 -- a form that is not written has no room to ask for

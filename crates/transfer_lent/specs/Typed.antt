@@ -1,8 +1,7 @@
 -- The numbers of a transfer a second time, typed. Assumes nothing.
-use Rattle.std.specs.Prelude.{ℕ, List, [], ◌∷◌}
+use Rattle.std.specs.Prelude.{ℕ, List, [], ◌∷◌, Err, Ok, Result}
 use Rattle.refusals.specs.declared.Refusal.{Refusal}
 use Rattle.transfer.specs.declared.Answer.{Answer}
-use Rattle.transfer.specs.declared.Answer.TheVariants.{Refused}
 use Rattle.transfer.specs.declared.Phase.{Phase}
 
 -- before START, run, drain, done, failed, ended
@@ -10,12 +9,12 @@ abbrev pub typed_phases : List Phase
 typed_phases = Phase.New ∷ Phase.Run ∷ Phase.Drain ∷ Phase.Done ∷ Phase.Fail ∷ Phase.End ∷ []
 
 -- 0, document 01's refusals, and from 16 on what happened
-abbrev pub typed_answers : List Answer
+abbrev pub typed_answers : List (Result Answer Refusal)
 typed_answers =
-    Answer.Ok
-    ∷ Refused Refusal.Length ∷ Refused Refusal.Unlisted ∷ Refused Refusal.Rules ∷ Refused Refusal.Phy ∷ Refused Refusal.Past
-    ∷ Refused Refusal.Unfit ∷ Refused Refusal.Due ∷ Refused Refusal.Sent ∷ Refused Refusal.Present ∷ Refused Refusal.Full
-    ∷ Answer.Sent ∷ Answer.Drain ∷ Answer.Retry ∷ Answer.Done ∷ Answer.Fail ∷ Answer.End ∷ []
+    (Ok Answer.Ok)
+    ∷ Err Refusal.Length ∷ Err Refusal.Unlisted ∷ Err Refusal.Rules ∷ Err Refusal.Phy ∷ Err Refusal.Past
+    ∷ Err Refusal.Unfit ∷ Err Refusal.Due ∷ Err Refusal.Sent ∷ Err Refusal.Present ∷ Err Refusal.Full
+    ∷ (Ok Answer.Sent) ∷ (Ok Answer.Drain) ∷ (Ok Answer.Retry) ∷ (Ok Answer.Done) ∷ (Ok Answer.Fail) ∷ (Ok Answer.End) ∷ []
 
 abbrev pub typed_answer_numbers : List ℕ
 typed_answer_numbers = 0 ∷ 1 ∷ 2 ∷ 3 ∷ 4 ∷ 5 ∷ 6 ∷ 7 ∷ 8 ∷ 9 ∷ 10 ∷ 16 ∷ 17 ∷ 18 ∷ 19 ∷ 20 ∷ 21 ∷ []

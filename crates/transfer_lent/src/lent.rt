@@ -1,6 +1,5 @@
 // Numbers to a transfer and back.
 ghost use Rattle.std.specs.Prelude.{◌≡◌};
-ghost use Rattle.laws.specs.Names as names;
 ghost use Rattle.transfer.specs.Steps.{limit};
 ghost use Rattle.transfer_lent.specs.Lent.{formed, state_of, shown, told, malformed, next_length};
 
@@ -16,60 +15,55 @@ pub(crate) fn formed(s: State) -> bool
 }
 
 // The transfer that the numbers say.
-pub(crate) fn state_of(s: State) -> Transfer
-    ensures { result ≡ state_of s }
-{
-    let phase = numbers::phase_of(s.phase);
-    Transfer {
-        offset: s.offset,
-        count: s.count,
-        size: s.size,
-        resends: s.resends,
-        read: s.read,
-        balance: s.balance,
-        unanswered: s.unanswered,
-        sent: s.sent == 1,
-        used: s.used,
-        phase,
-    }
-}
+impl From<State> for Transfer {
+    ghost from_gives = { λ s t. t ≡ state_of s };
 
-fn flag(t: bool) -> u8
-    ensures { result ≡ names.flag t }
-{
-    if t { 1 } else { 0 }
+    fn from(s: State) -> Transfer {
+        let phase = numbers::phase_of(s.phase);
+        Transfer {
+            offset: s.offset,
+            count: s.count,
+            size: s.size,
+            resends: s.resends,
+            read: s.read,
+            balance: s.balance,
+            unanswered: s.unanswered,
+            sent: s.sent == 1,
+            used: s.used,
+            phase,
+        }
+    }
 }
 
 // A transfer as numbers.
-pub(crate) fn shown(t: Transfer) -> State
-    ensures { result ≡ shown t }
-{
-    let p = t.phase;
-    let phase = numbers::phase_number(p);
-    let sent = flag(t.sent);
-    State {
-        offset: t.offset,
-        count: t.count,
-        size: t.size,
-        resends: t.resends,
-        read: t.read,
-        balance: t.balance,
-        unanswered: t.unanswered,
-        used: t.used,
-        zero2: 0,
-        sent,
-        phase,
+impl From<Transfer> for State {
+    ghost from_gives = { λ t s. s ≡ shown t };
+
+    fn from(t: Transfer) -> State {
+        let phase = numbers::phase_number(t.phase);
+        let sent = u8::from(t.sent);
+        State {
+            offset: t.offset,
+            count: t.count,
+            size: t.size,
+            resends: t.resends,
+            read: t.read,
+            balance: t.balance,
+            unanswered: t.unanswered,
+            used: t.used,
+            zero2: 0,
+            sent,
+            phase,
+        }
     }
 }
 
-// What a call of the transfer answers, as numbers.
+// What a call of the transfer answers, as numbers. A function, as `malformed` is, which is no conversion.
 pub(crate) fn told(r: Stepped) -> Step
     ensures { result ≡ told r }
 {
-    let a = r.answer;
-    let t = r.state;
-    let answer = numbers::answer_number(a);
-    let state = shown(t);
+    let answer = numbers::answer_number(r.answer);
+    let state = State::from(r.state);
     Step { state, answer }
 }
 
@@ -78,7 +72,7 @@ pub(crate) fn told(r: Stepped) -> Step
 pub(crate) fn malformed(s: State) -> Step
     ensures { result ≡ malformed s }
 {
-    let answer = refusals::number(Refusal::Rules);
+    let answer = u8::from(Refusal::Rules);
     Step { state: s, answer }
 }
 
@@ -86,9 +80,7 @@ pub(crate) fn malformed(s: State) -> Step
 pub(crate) fn next_length(t: Transfer) -> u32
     ensures { result ≡ next_length limit t }
 {
-    let stepped = t.frame();
-    let a = stepped.answer;
-    if numbers::answer_number(a) == 16 {
+    if t.frame().answer.is_ok() {
         return t.frame_length();
     }
     0

@@ -1,21 +1,16 @@
-// The numbers of a transfer's phases and of what its calls answer.
+// The numbers of a transfer's phases and of what its calls answer, as the C interface has them. Functions and no `impl From`, which this crate
+// may not write between another crate's enum and u8.
 ghost use Rattle.std.specs.Prelude.{◌≡◌};
 ghost use Rattle.transfer_lent.specs.Numbers.{phase_number, phase_of, answer_number};
 
+use refusals::Refusal;
 use transfer::{Answer, Phase};
 
 // 0 before START to 5 for ended.
 pub fn phase_number(p: Phase) -> u8
     ensures { result ≡ phase_number p }
 {
-    match p {
-        Phase::New => 0,
-        Phase::Run => 1,
-        Phase::Drain => 2,
-        Phase::Done => 3,
-        Phase::Fail => 4,
-        Phase::End => 5,
-    }
+    p as u8
 }
 
 // From the last on it is the last.
@@ -33,17 +28,17 @@ pub fn phase_of(n: u8) -> Phase
 }
 
 // 0, a refusal's own number, or from 16 on what happened.
-pub fn answer_number(a: Answer) -> u8
+pub fn answer_number(a: Result<Answer, Refusal>) -> u8
     ensures { result ≡ answer_number a }
 {
     match a {
-        Answer::Ok => 0,
-        Answer::Sent => 16,
-        Answer::Drain => 17,
-        Answer::Retry => 18,
-        Answer::Done => 19,
-        Answer::Fail => 20,
-        Answer::End => 21,
-        Answer::Refused(k) => refusals::number(k),
+        Ok(Answer::Ok) => 0,
+        Ok(Answer::Sent) => 16,
+        Ok(Answer::Drain) => 17,
+        Ok(Answer::Retry) => 18,
+        Ok(Answer::Done) => 19,
+        Ok(Answer::Fail) => 20,
+        Ok(Answer::End) => 21,
+        Err(k) => u8::from(k),
     }
 }

@@ -3,30 +3,29 @@ ghost use Rattle.std.specs.Prelude.{◌≡◌};
 ghost use Rattle.transfer_lent.specs.Saves as saves;
 
 use crate::Saved;
-use refusals::{Checked, Refusal};
+use refusals::Refusal;
 
-// 0, or the refusal's number.
-pub(crate) fn checked_number(c: Checked) -> u8
+// 0, or the refusal's number. refusals::answer is a writer's; this is of a saved transfer, as its own definition is under the claims.
+pub(crate) fn checked_number(c: Result<(), Refusal>) -> u8
     ensures { result ≡ saves.checked_number c }
 {
     match c {
-        Checked::Passed => 0,
-        Checked::Refused(k) => refusals::number(k),
+        Ok(()) => 0,
+        Err(k) => u8::from(k),
     }
 }
 
 pub(crate) fn unsaved(k: Refusal) -> Saved
     ensures { result ≡ saves.unsaved k }
 {
-    let answer = refusals::number(k);
+    let answer = u8::from(k);
     Saved { length: 0, answer }
 }
 
 pub(crate) fn told(r: saved::Saved) -> Saved
     ensures { result ≡ saves.told r }
 {
-    let checked = r.answer;
-    let answer = checked_number(checked);
+    let answer = checked_number(r.answer);
     Saved {
         length: r.length,
         answer,

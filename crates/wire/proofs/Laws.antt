@@ -3,31 +3,27 @@
 use mathlib.Core.Path.{◌≡◌, refl, sym, ap, ◌∙◌}
 use mathlib.Core.Bool.{Bool, true, false, cond, ◌&&◌}
 use Prim.Native.Nat.{ℕ, zero, suc, ◌+◌, ◌-◌, ◌*◌, ◌/◌, ◌%◌, ◌^◌, ◌≤◌, ◌<◌}
-use native.Mathlib.Nat.{pow-le-pow_right, pow-suc, mul_assoc, add_assoc, add-suc, add-zero, zero-add, one-le-pow, mod-lt, div-add-mod'}
+use native.Mathlib.Nat.{pow-suc, mul_assoc, add_assoc, add-suc, add-zero, zero-add, one-le-pow, mod-lt, div-add-mod'}
 use native.Mathlib.Omega.{arith}
 use native.Mathlib.Numerals.{add-one}
 use mathlib.Core.List.{List, [], ◌∷◌, ◌++◌, append_assoc, append-nil}
 use lib.Dec.{leb, ltb}
-use lib.ListN.{length, get_or, take, drop, set, replicate, length-append, length-set, length-drop, replicate-append-replicate, get_or-append}
+use lib.ListN.{length, get_or, take, drop, replicate, length-append, length-drop, replicate-append-replicate, get_or-append}
 use lib.Arith.{digits_div, digits_mod}
-use lib.Seq.{take-length, drop-drop, drop-set-lt, drop-cons, get_or-set_same, get_or-append-add, take-suc, get_or-take, get_or-drop, get_or_at, length-take-le}
+use lib.Seq.{take_all, drop-drop, get_or-append-add, take-suc, get_or-take, get_or-drop, get_or_at}
 use borrow.Author.Tests.{le-leb, lt-leb, ltb-true, ltb-false}
 use borrow.Rule.Slice.PartMut.{put_mid}
+use Rattle.std.specs.Int.{w64, byte_at, bytes_high_first, to_be_bytes, from_be_bytes}
+use Rattle.std.proofs.lemmas.List.{take-replicate}
+use Rattle.std.proofs.Math.ListN.{length-replicate}
+use Rattle.std.proofs.Math.Seq.{drop-append_seam}
 use Rattle.laws.proofs.Bools.{and_true, and_false}
-use Rattle.laws.proofs.Lists.{lent_tail, back_tail}
+use Rattle.laws.proofs.Lists.{back_tail}
 use Rattle.wire.specs.Be.{be_at, be_bytes, written, fits, get_be, put_be, Got}
 
 -- one byte more fits the next power
 pub step_lt : (i : ℕ) {a x : ℕ} → a < 256 ^ i → x < 256 → a * 256 + x < 256 ^ suc i
 step_lt i {a} {x} ha hx = omega arith
-
--- a power of 256 up to the eighth is within 64 bits
-pub pow_le_64 : {i : ℕ} → i ≤ 8 → 256 ^ i ≤ 2 ^ 64
-pow_le_64 {i} h = pow-le-pow_right {n = 256} (omega arith) h
-
--- so a number that is read byte by byte stays within 64 bits
-pub step_64 : {i n a x : ℕ} → i < n → n ≤ 8 → a < 256 ^ i → x < 256 → a * 256 + x < 2 ^ 64
-step_64 {i} {n} {a} {x} hi hn ha hx = omega (arith, step_lt i ha hx, pow_le_64 {i = suc i} (omega arith))
 
 -- a field of n bytes is below 256 ^ n
 pub be_at_lt : (s : List ℕ) (at n : ℕ) → ((i : ℕ) → get_or s i 0 < 256) → be_at s at n < 256 ^ n
@@ -47,7 +43,7 @@ be_at_front (suc n) xs ys h =
     omega arith
 
 -- and what stands in a part of a list is read there
-be_at_part : (s : List ℕ) (at m n : ℕ) → n ≤ m → be_at (take m (drop at s)) 0 n ≡ be_at s at n
+pub be_at_part : (s : List ℕ) (at m n : ℕ) → n ≤ m → be_at (take m (drop at s)) 0 n ≡ be_at s at n
 be_at_part s at m zero h = refl
 be_at_part s at m (suc n) h =
     let here : get_or (take m (drop at s)) (0 + n) 0 ≡ get_or s (at + n) 0 =
@@ -156,18 +152,53 @@ zeros (suc n) = ap (λ (l : List ℕ). l ++ (0 ∷ [])) (zeros n) ∙ replicate-
 pub zeros_behind : (xs : List ℕ) (n : ℕ) → be_at (xs ++ replicate n 0) (length xs) n ≡ 0
 zeros_behind xs n = be_at_behind n xs (replicate n 0) ∙ ap (λ (l : List ℕ). be_at l 0 n) (sym (zeros n)) ∙ be_at-be_bytes n 0 (one-le-pow n 256 (omega arith))
 
--- the stores of `digits`, last byte first
-abbrev pub stores : List ℕ → ℕ → ℕ → List ℕ
-stores s zero v = s
-stores s (suc n) v = stores (set s n (v % 256)) n (v / 256)
+byte_is : (n v : ℕ) → byte_at n v ≡ v / 256 ^ n % 256
+byte_is zero v = omega arith
+byte_is (suc n) v = refl
 
-pub stores_are : (s : List ℕ) (n v : ℕ) → n ≤ length s → stores s n v ≡ be_bytes n v ++ drop n s
-stores_are s zero v h = refl
-stores_are s (suc n) v h =
-    let x = v % 256 in
-    let s' = set s n x in
-    let tail : drop n s' ≡ x ∷ drop (suc n) s = drop-cons s' n 0 (omega (arith, length-set s n x)) ∙ rw (get_or-set_same s n x 0 (omega arith), drop-set-lt (suc n) s n x (omega arith)) in
-    stores_are s' n (v / 256) (omega (arith, length-set s n x)) ∙ rw (tail, append_assoc)
+high_first : (n v : ℕ) → bytes_high_first n v ≡ be_bytes n v
+high_first zero v = refl
+high_first (suc n) v =
+    let a = v / 256 ^ n in
+    let b = v % 256 ^ n in
+    let is : v ≡ a * 256 ^ n + b = sym (div-add-mod' v (256 ^ n)) in
+    let more : suc n ≡ 1 + n = omega arith in
+    (λ i. byte_is n v i ∷ high_first n v i)
+    ∙ ap (λ (l : List ℕ). a % 256 ∷ l) (sym (be_bytes_low n v))
+    ∙ sym (be_bytes_join 1 n a b (mod-lt v (one-le-pow n 256 (omega arith))))
+    ∙ (λ i. be_bytes (sym more i) (sym is i))
+
+-- a block of eight bytes is the number that std reads in it and writes into it
+pub block_read : (b : List ℕ) → from_be_bytes w64 b ≡ be_at b 0 8
+block_read b = omega arith
+
+pub block_written : (v : ℕ) → to_be_bytes w64 v ≡ be_bytes 8 v
+block_written v = high_first 8 v
+
+-- a field at the end of a block of zeros is the block's number
+pub at_end : (k n : ℕ) (field : List ℕ) → k + n ≡ 8 → be_at (take k (replicate 8 0) ++ field) 0 8 ≡ be_at field 0 n
+at_end k n field e =
+    let zeros : ◌≡◌ {A = List ℕ} (take k (replicate 8 0)) (replicate k 0) = take-replicate k 8 0 (omega arith) in
+    let b = replicate k 0 ++ field in
+    let none : be_at b 0 k ≡ 0 = be_at_front k (replicate k 0) field (omega (arith, length-replicate {A = ℕ} k 0)) ∙ zeros_behind [] k in
+    let some : be_at b (0 + k) n ≡ be_at field 0 n = ap (λ (i : ℕ). be_at b i n) (omega (arith, length-replicate {A = ℕ} k 0)) ∙ be_at_behind n (replicate k 0) field in
+    (λ i. be_at (zeros i ++ field) 0 (sym e i))
+    ∙ be_at_join b 0 k n
+    ∙ (λ i. none i * 256 ^ n + some i)
+    ∙ omega arith
+
+-- the low n bytes of a number are the last n of its eight
+pub last_bytes : (k n v : ℕ) → k + n ≡ 8 → drop k (be_bytes 8 v) ≡ be_bytes n v
+last_bytes k n v e =
+    let a = v / 256 ^ n in
+    let b = v % 256 ^ n in
+    let is : v ≡ a * 256 ^ n + b = sym (div-add-mod' v (256 ^ n)) in
+    let long : length (be_bytes k a) ≡ k = length-be_bytes k a in
+    (λ i. drop k (be_bytes (sym e i) (is i)))
+    ∙ ap (drop k) (be_bytes_join k n a b (mod-lt v (one-le-pow n 256 (omega arith))))
+    ∙ (λ i. drop (sym long i) (be_bytes k a ++ be_bytes n b))
+    ∙ drop-append_seam (be_bytes k a) (be_bytes n b)
+    ∙ be_bytes_low n v
 
 module _ (s : List ℕ) (at n : ℕ) where
   pub fit : n ≤ 8 → at + n ≤ length s → fits s at n ≡ true
@@ -196,19 +227,20 @@ module _ (s : List ℕ) (at n : ℕ) where
   pub put_out : (v : ℕ) → fits s at n ≡ false → s ≡ put_be s at n v
   put_out v e = sym (ap (λ (t : Bool). cond t (written s at n v) s) e)
 
--- a field that was copied into the part from at on, when that part is back
-pub placed : (s ys x : List ℕ) (at n v : ℕ) → x ≡ be_bytes n v → ys ≡ take (length x) x ++ drop (length x) (take (length s - at) (drop at s)) → put_mid at (length s - at) s ys ≡ written s at n v
-placed s ys x at n v ex ey =
-    let long : length x ≡ n = ap length ex ∙ length-be_bytes n v in
-    let rest : drop (length x) (take (length s - at) (drop at s)) ≡ drop (at + n) s = (λ i. drop (long i) (lent_tail at s i)) ∙ drop-drop n at s in
-    back_tail at s ys ∙ ap (λ (z : List ℕ). take at s ++ z) (ey ∙ (λ i. (take-length x ∙ ex) i ++ rest i))
+-- the number that std reads in a block of zeros with a field at its end
+pub read_at_end : (field : List ℕ) (n r : ℕ) → n ≤ 8 → r ≡ from_be_bytes w64 (put_mid (8 - n) (8 - (8 - n)) (replicate 8 0) field) → r ≡ be_at field 0 n
+read_at_end field n r few is =
+    is
+    ∙ block_read (put_mid (8 - n) (8 - (8 - n)) (replicate 8 0) field)
+    ∙ ap (λ (b : List ℕ). be_at b 0 8) (back_tail (8 - n) (replicate 8 0) field)
+    ∙ at_end (8 - n) n field (omega arith)
 
--- a field that was copied to the front of d, as the part x from at on
-pub copied : (s d rest : List ℕ) (at n : ℕ) → at + n ≤ length s → let x = take (at + n - at) (drop at s) in d ≡ x ++ rest → be_at d 0 n ≡ be_at s at n
-copied s d rest at n room e =
-    let m = at + n - at in
-    let x = take m (drop at s) in
-    let long : length x ≡ n = length-take-le m (drop at s) (omega (arith, length-drop at s)) ∙ omega arith in
-    ap (λ (l : List ℕ). be_at l 0 n) e
-    ∙ be_at_front n x rest (omega arith)
-    ∙ be_at_part s at m n (omega arith)
+-- the last n bytes of v's eight, stored in the part of s from at to e
+pub placed : (s ys : List ℕ) (at n e v : ℕ) → n ≤ 8 → e ≡ at + n → ys ≡ take (8 - (8 - n)) (drop (8 - n) (to_be_bytes w64 v)) → put_mid at (e - at) s ys ≡ written s at n v
+placed s ys at n e v few end is =
+    let size : e - at ≡ n = omega arith in
+    let width : 8 - (8 - n) ≡ n = omega arith in
+    let low : drop (8 - n) (to_be_bytes w64 v) ≡ be_bytes n v = ap (drop (8 - n)) (block_written v) ∙ last_bytes (8 - n) n v (omega arith) in
+    let field : ys ≡ be_bytes n v = is ∙ (λ i. take (width i) (low i)) ∙ take_all n (be_bytes n v) (omega (arith, length-be_bytes n v)) in
+    (λ i. take at s ++ (field i ++ drop (size i) (drop at s)))
+    ∙ ap (λ (z : List ℕ). take at s ++ (be_bytes n v ++ z)) (drop-drop n at s)

@@ -1,5 +1,6 @@
 -- The test of a write is exact for every number of tags of two or more: what calls leave passes it, and each state that passes it some START
 -- and calls after it leave. Assumes nothing.
+use Rattle.std.specs.Prelude.{Ok}
 use Prim.Native.Nat.{ℕ, suc, ◌+◌, ◌-◌, ◌*◌, ◌/◌, ◌^◌, ◌≤◌, ◌<◌}
 use mathlib.Core.Bool.{true}
 use mathlib.Core.Logic.{◌⊎◌, inl, inr, ⊎_elim, ◌↔◌}
@@ -130,7 +131,7 @@ unstarted_good : (k : ℕ) → Good k unstarted
 unstarted_good k = record { rules = inl refl; small = pow_pos k }
 
 -- so a START in range is taken
-taken : (k : ℕ) (s : Write) → Setup k s → start_step k s.offset s.count s.burst s.resends unstarted ≡ say Answer.Ok (begun s)
+taken : (k : ℕ) (s : Write) → Setup k s → start_step k s.offset s.count s.burst s.resends unstarted ≡ say (Ok Answer.Ok) (begun s)
 unfolding start_step
 taken k s h = rw ((in_range_lem k s.offset s.count s.burst s.resends).1 h, kept k unstarted (unstarted_good k))
 

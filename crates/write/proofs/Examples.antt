@@ -1,4 +1,5 @@
 -- The listing of a write that loses its first XFER_RDY, and STARTs at the ends of their ranges, computed by the definitions. Assumes nothing.
+use Rattle.std.specs.Prelude.{Err, Ok}
 use mathlib.Core.List.{map}
 use mathlib.Core.Path.{◌≡◌, refl}
 use lib.Count.{ones, count_trailing_zeros}
@@ -15,10 +16,10 @@ unfolding step_of start_step xfer_step ack_step miss_step got_step missed taken 
 lists = refl
 
 -- START takes the ends of the ranges, and nothing past them
-pub takes : map (λ (c : Call). (step_of limit c unstarted).answer) in_ranges ≡ replicate 5 Answer.Ok
+pub takes : map (λ (c : Call). (step_of limit c unstarted).answer) in_ranges ≡ replicate 5 (Ok Answer.Ok)
 unfolding step_of start_step keeps_rules placed phase_rule
 takes = refl
 
-pub takes_no_more : map (λ (c : Call). (step_of limit c unstarted).answer) past_ranges ≡ replicate 5 (Answer.Refused Refusal.Rules)
+pub takes_no_more : map (λ (c : Call). (step_of limit c unstarted).answer) past_ranges ≡ replicate 5 (Err Refusal.Rules)
 unfolding step_of start_step keeps_rules placed phase_rule
 takes_no_more = refl

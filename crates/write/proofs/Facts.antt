@@ -1,5 +1,6 @@
 -- The rows of the write a second time, as what one call after another does: a retry goes under another tag than the one that failed, a
 -- full range's tag is let go of and is not the next one's, and no DATA is taken twice. Assumes nothing.
+use Rattle.std.specs.Prelude.{Err, Ok, Result}
 use Prim.Native.Nat.{ℕ, ◌+◌, ◌%◌, ◌^◌, ◌≤◌, ◌<◌}
 use mathlib.Core.Bool.{Bool, true, false, cond, ◌&&◌, ◌||◌}
 use mathlib.Core.Logic.{⊎_elim}
@@ -37,7 +38,7 @@ pub record Sends (k others : ℕ) (s : Write) : Type 0 where
   pub free : Free others (steps.free k others s) s
   pub leaves : (step_of k (xfer others) s).state ≡ with s s.next (steps.free k others s) (s.tags + 2 ^ steps.free k others s) s.used Phase.Wait
 
-module _ (k others : ℕ) (s : Write) (small : s.tags < 2 ^ k) (typed : others < 2 ^ k) (sent : (step_of k (xfer others) s).answer ≡ Answer.Sent) where
+module _ (k others : ℕ) (s : Write) (small : s.tags < 2 ^ k) (typed : others < 2 ^ k) (sent : (step_of k (xfer others) s).answer ≡ Ok Answer.Sent) where
   pub sends : Sends k others s
   unfolding causes_of goes_on
   sends =
@@ -66,7 +67,7 @@ unfolding step_of
 alike k s = (refl, refl)
 
 -- an XFER_RDY failed, and a retry is due
-module _ (k : ℕ) (s : Write) (small : s.tags < 2 ^ k) (retry : (step_of k nak s).answer ≡ Answer.Retry) where
+module _ (k : ℕ) (s : Write) (small : s.tags < 2 ^ k) (retry : (step_of k nak s).answer ≡ Ok Answer.Retry) where
   nak_went : Went k nak s
   nak_went = went k nak s (ap is_refused retry)
 
@@ -98,7 +99,7 @@ module _ (k : ℕ) (s : Write) (small : s.tags < 2 ^ k) (retry : (step_of k nak 
   pub retry_bit : retransmit_of (step_of k nak s).state ≡ 1
   retry_bit = ap retransmit_of retry_leaves ∙ ap (λ (t : Bool). cond t 0 1) (ne_eqb s.tags 0 (some_in s.tags s.tag failed_tag))
 
-  module _ (others : ℕ) (typed : others < 2 ^ k) (sent : (step_of k (xfer others) (step_of k nak s).state).answer ≡ Answer.Sent) where
+  module _ (others : ℕ) (typed : others < 2 ^ k) (sent : (step_of k (xfer others) (step_of k nak s).state).answer ≡ Ok Answer.Sent) where
     retry_small : (step_of k nak s).state.tags < 2 ^ k
     retry_small = tags_small k s was_kept small nak tt
 
@@ -121,32 +122,32 @@ module _ (k : ℕ) (s : Write) (small : s.tags < 2 ^ k) (retry : (step_of k nak 
 
 -- DATA that doesn't fit an unfinished write is 2, of whatever length
 module _ (k t o n : ℕ) (s : Write) (kept : keeps_rules k s ≡ true) (work : unfinished s.phase ≡ true) (due : early t s ≡ false) where
-  misfit : fits t o n s ≡ false → (step_of k (got t o n) s).answer ≡ Answer.Refused Refusal.Unlisted
+  misfit : fits t o n s ≡ false → (step_of k (got t o n) s).answer ≡ Err Refusal.Unlisted
   unfolding step_of got_step
   misfit off = by (sized n) refl
     where
-      by : (b : Bool) → sized n ≡ b → (got_step k t o n s).answer ≡ Answer.Refused Refusal.Unlisted
+      by : (b : Bool) → sized n ≡ b → (got_step k t o n s).answer ≡ Err Refusal.Unlisted
       by false e = rw e
       by true e = rw (e, kept, work, due, off)
 
   -- under a tag that is none of its own
-  pub unknown : digit s.tags t ≡ 0 → (step_of k (got t o n) s).answer ≡ Answer.Refused Refusal.Unlisted
+  pub unknown : digit s.tags t ≡ 0 → (step_of k (got t o n) s).answer ≡ Err Refusal.Unlisted
   unknown out = misfit (ap (λ (d : ℕ). eqb d 1 && (within o n s && in_order t o s)) out)
 
   -- before the next byte
-  pub before : o < s.next → (step_of k (got t o n) s).answer ≡ Answer.Refused Refusal.Unlisted
+  pub before : o < s.next → (step_of k (got t o n) s).answer ≡ Err Refusal.Unlisted
   before less =
       misfit (and_false (has s.tags t) (ap (λ (b : Bool). (b && (leb (o + n) (until s) && (eqb (n % 4) 0 || eqb (o + n) (until s)))) && in_order t o s) (lt-leb s.next o less)))
 
 -- DATA that was neither refused nor late, as v says
-pub record Gets (k t o n : ℕ) (s : Write) (v : Answer) : Type 0 where
+pub record Gets (k t o n : ℕ) (s : Write) (v : Result Answer Refusal) : Type 0 where
   pub kept : keeps_rules k s ≡ true
   pub some : 1 ≤ n
   pub fit : Fits t o n s
   pub due : (s.phase ≡ Phase.Take) × (t ≡ s.tag)
   pub leaves : (step_of k (got t o n) s).state ≡ got_left (o + n) s v
 
-pub gets : (k t o n : ℕ) (s : Write) (v : Answer) → is_refused v ≡ false → is_late v ≡ false → (step_of k (got t o n) s).answer ≡ v → Gets k t o n s v
+pub gets : (k t o n : ℕ) (s : Write) (v : Result Answer Refusal) → is_refused v ≡ false → is_late v ≡ false → (step_of k (got t o n) s).answer ≡ v → Gets k t o n s v
 unfolding causes_of goes_on
 gets k t o n s v good now is =
     let w = went k (got t o n) s (ap is_refused is ∙ good) in
@@ -160,9 +161,9 @@ gets k t o n s v good now is =
     }
 
 -- a range is full
-module _ (k : ℕ) (s : Write) (small : s.tags < 2 ^ k) (t o n : ℕ) (more : (step_of k (got t o n) s).answer ≡ Answer.More) where
-  full : Gets k t o n s Answer.More
-  full = gets k t o n s Answer.More refl refl more
+module _ (k : ℕ) (s : Write) (small : s.tags < 2 ^ k) (t o n : ℕ) (more : (step_of k (got t o n) s).answer ≡ Ok Answer.More) where
+  full : Gets k t o n s (Ok Answer.More)
+  full = gets k t o n s (Ok Answer.More) refl refl more
 
   full_leaves : (step_of k (got t o n) s).state ≡ with s (o + n) s.tag 0 s.used Phase.Ask
   full_leaves = full.leaves
@@ -171,7 +172,7 @@ module _ (k : ℕ) (s : Write) (small : s.tags < 2 ^ k) (t o n : ℕ) (more : (s
   full_kept = sound k s full.kept small (got t o n) tt
 
   -- its tag is let go of: DATA under it is 2, and not late
-  pub full_unknown : (o' n' : ℕ) → (step_of k (got t o' n') (step_of k (got t o n) s).state).answer ≡ Answer.Refused Refusal.Unlisted
+  pub full_unknown : (o' n' : ℕ) → (step_of k (got t o' n') (step_of k (got t o n) s).state).answer ≡ Err Refusal.Unlisted
   full_unknown o' n' =
       unknown k t o' n' (step_of k (got t o n) s).state full_kept (ap (λ (a : Write). unfinished a.phase) full_leaves) (ap (early t) full_leaves)
       (ap (λ (a : Write). digit a.tags t) full_leaves ∙ digit_zero t)
@@ -188,7 +189,7 @@ module _ (k : ℕ) (s : Write) (small : s.tags < 2 ^ k) (t o n : ℕ) (more : (s
       let at = h.fit.order h.due.0 h.due.1 in
       ap (λ (a : Write). eqb a.next a.offset) full_leaves ∙ ne_eqb (o + n) s.offset (λ e. omega (arith, least, h.some, at, e))
 
-  module _ (others : ℕ) (typed : others < 2 ^ k) (sent : (step_of k (xfer others) (step_of k (got t o n) s).state).answer ≡ Answer.Sent) where
+  module _ (others : ℕ) (typed : others < 2 ^ k) (sent : (step_of k (xfer others) (step_of k (got t o n) s).state).answer ≡ Ok Answer.Sent) where
     full_small : (step_of k (got t o n) s).state.tags < 2 ^ k
     full_small = tags_small k s full.kept small (got t o n) tt
 
@@ -199,7 +200,7 @@ module _ (k : ℕ) (s : Write) (small : s.tags < 2 ^ k) (t o n : ℕ) (more : (s
         (same ∙ full.due.1 ∙ sym (ap (λ (a : Write). a.tag) full_leaves))
 
     -- and under the full one's DATA is still 2
-    pub still_unknown : (o' n' : ℕ) → (step_of k (got t o' n') (step_of k (xfer others) (step_of k (got t o n) s).state).state).answer ≡ Answer.Refused Refusal.Unlisted
+    pub still_unknown : (o' n' : ℕ) → (step_of k (got t o' n') (step_of k (xfer others) (step_of k (got t o n) s).state).state).answer ≡ Err Refusal.Unlisted
     still_unknown o' n' =
         let a = (step_of k (got t o n) s).state in
         let h = sends k others a full_small typed sent in
@@ -216,9 +217,9 @@ unfolding step_of got_step
 overtakes k o n s kept wait right = rw (right, kept, wait, eq-eqb s.tag s.tag refl)
 
 -- DATA that was taken and offered again is 2
-pub once : (k t o n : ℕ) (s : Write) → s.tags < 2 ^ k → (step_of k (got t o n) s).answer ≡ Answer.Ok → (step_of k (got t o n) (step_of k (got t o n) s).state).answer ≡ Answer.Refused Refusal.Unlisted
+pub once : (k t o n : ℕ) (s : Write) → s.tags < 2 ^ k → (step_of k (got t o n) s).answer ≡ Ok Answer.Ok → (step_of k (got t o n) (step_of k (got t o n) s).state).answer ≡ Err Refusal.Unlisted
 once k t o n s small ok =
-    let h = gets k t o n s Answer.Ok refl refl ok in
+    let h = gets k t o n s (Ok Answer.Ok) refl refl ok in
     let a = (step_of k (got t o n) s).state in
     let to : a.next ≡ o + n = ap (λ (b : Write). b.next) h.leaves in
     before k t o n a (sound k s h.kept small (got t o n) tt) (ap (λ (b : Write). unfinished b.phase) h.leaves) (ap (early t) h.leaves) (omega (arith, to, h.some))

@@ -4,6 +4,7 @@ use mathlib.Core.Path.{◌≡◌, refl, ap}
 use mathlib.Core.Bool.{true}
 use mathlib.Core.Logic.{◌⊎◌}
 use lib.Count.{ones}
+use native.Mathlib.Omega.{arith}
 use Rattle.laws.specs.Tags.{digit}
 use Rattle.laws.specs.Tests.{Says}
 use Rattle.laws.proofs.Bools.{never}
@@ -11,6 +12,7 @@ use Rattle.laws.proofs.Tags.{has_says}
 use Rattle.laws.proofs.Tests.{less, most, equal, both, either, implies, unless, means}
 use Rattle.write.specs.Rules.{end_of, in_range, unstarted, is_new, zeros, placed, partway, at_range, counted}
 use Rattle.write.specs.Rules.{ask_rule, out_rule, take_rule, phase_rule, keeps_rules}
+use Rattle.write.specs.Steps.{limit}
 use Rattle.write.specs.Grounds.{InRange}
 use Rattle.write.specs.declared.Write.{Write}
 use Rattle.write.specs.declared.Phase.{Phase}
@@ -53,6 +55,23 @@ unfolding placed
 placed_says k s =
     both (in_range_lem k s.offset s.count s.burst s.resends)
     (both (most s.offset s.next) (both (most s.next (end_of s)) (both (most s.used s.resends) (less s.tag k))))
+
+-- what a test that was passed says to the code behind it
+module _ (s : Write) (passed : placed limit s ≡ true) where
+  in_ranges : Placed limit s
+  in_ranges = (placed_says limit s).0 passed
+
+  pub from_start : s.offset ≤ s.next
+  from_start = first limit s in_ranges
+
+  pub burst_more : 0 < s.burst
+  burst_more = omega (arith, four limit s in_ranges.0)
+
+  pub used_less : s.used < limit
+  used_less = omega (arith, few limit s in_ranges.0, tried limit s in_ranges)
+
+  pub tag_less : s.tag < limit
+  tag_less = under limit s in_ranges
 
 abbrev pub Partway : Write → Type 0
 Partway s = (s.next < end_of s) × ((s.next - s.offset) % 4 ≡ 0)

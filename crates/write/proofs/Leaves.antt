@@ -1,5 +1,6 @@
 -- What each row leaves keeps the rules: an XFER_RDY adds a tag, its failure a retry, and data moves the next byte within its range or to the next
 -- one's first. Assumes nothing.
+use Rattle.std.specs.Prelude.{Ok}
 use Prim.Native.Nat.{ℕ, ◌+◌, ◌-◌, ◌%◌, ◌^◌, ◌≤◌, ◌<◌}
 use mathlib.Core.Logic.{◌⊎◌, inl, inr}
 use mathlib.Core.Path.{◌≡◌, refl, ap}
@@ -111,7 +112,7 @@ module _ (k : ℕ) (s : Write) (placed : Placed k s) (small : s.tags < 2 ^ k) wh
     there : to ≤ end_of s → Setup k s × ((s.offset ≤ to) × ((to ≤ end_of s) × ((s.used ≤ s.resends) × (s.tag < k))))
     there l = let at = past in keeps to s.tag s.used (omega (arith, at)) l most less
 
-    before : to < until s → Leaves k (say Answer.Ok (with s to s.tag (2 ^ s.tag) s.used Phase.Take))
+    before : to < until s → Leaves k (say (Ok Answer.Ok) (with s to s.tag (2 ^ s.tag) s.used Phase.Take))
     before l =
         let begins = range_least s (four k s placed.0) least in
         let ends = until_near s in
@@ -125,7 +126,7 @@ module _ (k : ℕ) (s : Write) (placed : Placed k s) (small : s.tags < 2 ^ k) wh
         step (inl e) = let aligned = partway.1 in let at = least in omega (arith, e, aligned, at, some)
         step (inr e) = absurd (omega (arith, e, l))
 
-    full : until s ≤ to → to < end_of s → Leaves k (say Answer.More (with s to s.tag 0 s.used Phase.Ask))
+    full : until s ≤ to → to < end_of s → Leaves k (say (Ok Answer.More) (with s to s.tag 0 s.used Phase.Ask))
     full l room =
         let is : to ≡ range_of s + s.burst = let e = until_whole s (omega (arith, near, room)) in omega (arith, e, near, l) in
         let at = range_next s to is in

@@ -1,4 +1,5 @@
 -- What a call makes of a state that keeps its rules and that it fits: its row, since no cause is given. Assumes nothing.
+use Rattle.std.specs.Prelude.{Ok}
 use Prim.Native.Nat.{ℕ, ◌+◌, ◌^◌, ◌≤◌, ◌<◌}
 use mathlib.Core.Bool.{true, not, ◌&&◌, ◌||◌}
 use mathlib.Core.Path.{◌≡◌, refl, sym, ap, ◌∙◌}
@@ -33,11 +34,11 @@ module _ (k : ℕ) (s : Write) (kept : keeps_rules k s ≡ true) where
   nak_step e = sym (unrefused (refused s) (missed s) (answer_causes k s) (ap not kept, (ap (λ (p : Phase). not (waiting p)) e, tt)))
 
   pub nak_again : s.phase ≡ Phase.Wait → s.used < s.resends
-      → step_of k nak s ≡ say Answer.Retry (with s s.next s.tag s.tags (s.used + 1) Phase.Ask)
+      → step_of k nak s ≡ say (Ok Answer.Retry) (with s s.next s.tag s.tags (s.used + 1) Phase.Ask)
   unfolding missed
   nak_again e l = nak_step e ∙ (rw (lt-leb s.resends s.used l))
 
-  pub nak_fail : s.phase ≡ Phase.Wait → s.resends ≤ s.used → step_of k nak s ≡ finished Answer.Fail Phase.Fail s
+  pub nak_fail : s.phase ≡ Phase.Wait → s.resends ≤ s.used → step_of k nak s ≡ finished (Ok Answer.Fail) Phase.Fail s
   unfolding missed
   nak_fail e l = nak_step e ∙ (rw (le-leb s.resends s.used l))
 
@@ -63,16 +64,16 @@ module _ (k : ℕ) (s : Write) (kept : keeps_rules k s ≡ true) where
         ∙ (rw ((awaited_says s.tag s).1 (e, refl)))
 
     pub got_before : s.next + n < until s
-        → step_of k (got s.tag s.next n) s ≡ say Answer.Ok (with s (s.next + n) s.tag (2 ^ s.tag) s.used Phase.Take)
+        → step_of k (got s.tag s.next n) s ≡ say (Ok Answer.Ok) (with s (s.next + n) s.tag (2 ^ s.tag) s.used Phase.Take)
     unfolding taken
     got_before l = got_step_lem ∙ (rw (lt-ltb (s.next + n) (until s) l))
 
     pub got_more : until s ≤ s.next + n → s.next + n < end_of s
-        → step_of k (got s.tag s.next n) s ≡ say Answer.More (with s (s.next + n) s.tag 0 s.used Phase.Ask)
+        → step_of k (got s.tag s.next n) s ≡ say (Ok Answer.More) (with s (s.next + n) s.tag 0 s.used Phase.Ask)
     unfolding taken
     got_more l m = got_step_lem ∙ (rw (le-ltb (s.next + n) (until s) l, lt-ltb (s.next + n) (end_of s) m))
 
     pub got_done : until s ≤ s.next + n → end_of s ≤ s.next + n
-        → step_of k (got s.tag s.next n) s ≡ say Answer.Done (with s (s.next + n) s.tag 0 s.used Phase.Done)
+        → step_of k (got s.tag s.next n) s ≡ say (Ok Answer.Done) (with s (s.next + n) s.tag 0 s.used Phase.Done)
     unfolding taken
     got_done l m = got_step_lem ∙ (rw (le-ltb (s.next + n) (until s) l, le-ltb (s.next + n) (end_of s) m))

@@ -1,5 +1,6 @@
 -- A call on a write is refused exactly by the first of its grounds that holds, since each of its tests decides one ground, and then
 -- the state is as it was. Assumes nothing.
+use Rattle.std.specs.Prelude.{Err, Ok, Result}
 use Prim.Native.Nat.{ℕ, ◌^◌, ◌≤◌, ◌<◌}
 use mathlib.Core.Bool.{Bool, true, false, not}
 use mathlib.Core.List.{List, [], ◌∷◌}
@@ -58,7 +59,7 @@ causes_of k cancel s = end_causes k s
 
 -- what a call answers and leaves where it is not refused
 unfoldable pub goes_on : ℕ → Call → Write → Stepped
-goes_on k (start b n x r) s = say Answer.Ok (started b n x r)
+goes_on k (start b n x r) s = say (Ok Answer.Ok) (started b n x r)
 goes_on k (xfer others) s = asked (free k others s) s
 goes_on k ack s = acked s
 goes_on k nak s = missed s
@@ -171,22 +172,22 @@ module _ (k : ℕ) (two : 2 ≤ k) (s : Write) (small : s.tags < 2 ^ k) where
   tested nexus typed = own ends
   tested cancel typed = own ends
 
-pub one : (i j : Refusal) → Answer.Refused i ≡ Answer.Refused j → i ≡ j
+pub one : (i j : Refusal) → ◌≡◌ {A = Result Answer Refusal} (Err i) (Err j) → i ≡ j
 one i j e = cc
 
 module _ (k : ℕ) (s : Write) (c : Call) where
-  answer_is : (step_of k c s).answer ≡ refuse Answer.Refused (causes_of k c s) (goes_on k c s).answer
+  answer_is : (step_of k c s).answer ≡ refuse Err (causes_of k c s) (goes_on k c s).answer
   answer_is = ap (λ (st : Stepped). st.answer) (step_is k c s) ∙ causes.through (λ (st : Stepped). st.answer) (refused s) (causes_of k c s) (goes_on k c s)
 
-  apart : (j : Refusal) → (goes_on k c s).answer ≡ Answer.Refused j → ⊥
+  apart : (j : Refusal) → (goes_on k c s).answer ≡ Err j → ⊥
   apart j e = never (sym (taken k c s) ∙ ap is_refused e)
 
   -- a call answers refusal j exactly if j is the first of its grounds that holds
-  pub refused_exactly : 2 ≤ k → s.tags < 2 ^ k → Typed k c → (j : Refusal) → ((step_of k c s).answer ≡ Answer.Refused j) ↔ First (grounds_of k c s) j
+  pub refused_exactly : 2 ≤ k → s.tags < 2 ^ k → Typed k c → (j : Refusal) → ((step_of k c s).answer ≡ Err j) ↔ First (grounds_of k c s) j
   refused_exactly two small typed j =
       let t = tested k two s small c typed in (
-        λ e. (t.same j).0 (causes.only Answer.Refused (goes_on k c s).answer one apart t.decided j (sym answer_is ∙ e)),
-        λ f. answer_is ∙ causes.if_first Answer.Refused (goes_on k c s).answer one apart t.decided j ((t.same j).1 f),
+        λ e. (t.same j).0 (causes.only Err (goes_on k c s).answer one apart t.decided j (sym answer_is ∙ e)),
+        λ f. answer_is ∙ causes.if_first Err (goes_on k c s).answer one apart t.decided j ((t.same j).1 f),
       )
 
 abbrev Kept : Write → Stepped → Type 0

@@ -1,4 +1,6 @@
 -- What a call leaves that is not refused, by its answer: each row is read off the tests that part it from the others. Assumes nothing.
+use Rattle.refusals.specs.declared.Refusal.{Refusal}
+use Rattle.std.specs.Prelude.{Err, Ok, Result}
 use Prim.Native.Nat.{ℕ, ◌+◌, ◌^◌}
 use mathlib.Core.Bool.{Bool, true, false, not}
 use mathlib.Core.Path.{◌≡◌, refl, sym, ap, ◌∙◌}
@@ -28,32 +30,32 @@ went k c s e = by (verdict (causes_of k c s))
     by (passes off h) = record { off = off; is = step_is k c s ∙ h Stepped (refused s) (goes_on k c s) }
 
 -- what a failure leaves, by its answer
-abbrev pub miss_left : Write → Answer → Write
-miss_left s Answer.Ok = s
-miss_left s Answer.Sent = s
-miss_left s Answer.Retry = with s s.next s.tag s.tags (s.used + 1) Phase.Ask
-miss_left s Answer.Late = s
-miss_left s Answer.More = s
-miss_left s Answer.Done = s
-miss_left s Answer.Fail = with s s.next s.tag 0 s.used Phase.Fail
-miss_left s Answer.End = s
-miss_left s (Answer.Refused j) = s
+abbrev pub miss_left : Write → Result Answer Refusal → Write
+miss_left s (Ok Answer.Ok) = s
+miss_left s (Ok Answer.Sent) = s
+miss_left s (Ok Answer.Retry) = with s s.next s.tag s.tags (s.used + 1) Phase.Ask
+miss_left s (Ok Answer.Late) = s
+miss_left s (Ok Answer.More) = s
+miss_left s (Ok Answer.Done) = s
+miss_left s (Ok Answer.Fail) = with s s.next s.tag 0 s.used Phase.Fail
+miss_left s (Ok Answer.End) = s
+miss_left s (Err j) = s
 
 pub miss_left_lem : (s : Write) → (missed s).state ≡ miss_left s (missed s).answer
 unfolding missed
 miss_left_lem s = by_test (λ (st : Stepped). st.state ≡ miss_left s st.answer) (leb s.resends s.used) (λ t. refl) (λ t. refl)
 
 -- what DATA leaves, by its answer; late, it leaves all as it was
-abbrev pub got_left : ℕ → Write → Answer → Write
-got_left to s Answer.Ok = with s to s.tag (2 ^ s.tag) s.used Phase.Take
-got_left to s Answer.Sent = s
-got_left to s Answer.Retry = s
-got_left to s Answer.Late = s
-got_left to s Answer.More = with s to s.tag 0 s.used Phase.Ask
-got_left to s Answer.Done = with s to s.tag 0 s.used Phase.Done
-got_left to s Answer.Fail = s
-got_left to s Answer.End = s
-got_left to s (Answer.Refused j) = s
+abbrev pub got_left : ℕ → Write → Result Answer Refusal → Write
+got_left to s (Ok Answer.Ok) = with s to s.tag (2 ^ s.tag) s.used Phase.Take
+got_left to s (Ok Answer.Sent) = s
+got_left to s (Ok Answer.Retry) = s
+got_left to s (Ok Answer.Late) = s
+got_left to s (Ok Answer.More) = with s to s.tag 0 s.used Phase.Ask
+got_left to s (Ok Answer.Done) = with s to s.tag 0 s.used Phase.Done
+got_left to s (Ok Answer.Fail) = s
+got_left to s (Ok Answer.End) = s
+got_left to s (Err j) = s
 
 pub got_left_lem : (t o n : ℕ) (s : Write) → (steps.got t o n s).state ≡ got_left (o + n) s (steps.got t o n s).answer
 unfolding steps.got taken
@@ -64,16 +66,16 @@ got_left_lem t o n s =
     Left st = st.state ≡ got_left (o + n) s st.answer
 
 -- it was awaited exactly if it isn't late
-abbrev pub is_late : Answer → Bool
-is_late Answer.Ok = false
-is_late Answer.Sent = false
-is_late Answer.Retry = false
-is_late Answer.Late = true
-is_late Answer.More = false
-is_late Answer.Done = false
-is_late Answer.Fail = false
-is_late Answer.End = false
-is_late (Answer.Refused j) = false
+abbrev pub is_late : Result Answer Refusal → Bool
+is_late (Ok Answer.Ok) = false
+is_late (Ok Answer.Sent) = false
+is_late (Ok Answer.Retry) = false
+is_late (Ok Answer.Late) = true
+is_late (Ok Answer.More) = false
+is_late (Ok Answer.Done) = false
+is_late (Ok Answer.Fail) = false
+is_late (Ok Answer.End) = false
+is_late (Err j) = false
 
 pub got_late : (t o n : ℕ) (s : Write) → is_late (steps.got t o n s).answer ≡ not (awaited t s)
 unfolding steps.got taken

@@ -1,4 +1,5 @@
 -- Whatever calls leave keeps the rules: a call that is refused leaves the state as it was, and each other what its row leaves. Assumes nothing.
+use Rattle.std.specs.Prelude.{Ok}
 use Prim.Native.Nat.{ℕ, ◌+◌, ◌-◌, ◌%◌, ◌^◌, ◌<◌}
 use mathlib.Core.Bool.{true}
 use mathlib.Core.List.{List, [], ◌∷◌}
@@ -50,7 +51,7 @@ module _ (k : ℕ) (s : Write) (g : Good k s) where
   begins : (b n x r : ℕ) → Leaves k (start_step k b n x r s)
   unfolding start_step
   begins b n x r =
-      by_causes (Leaves k) (refused s) stays (start_causes k b n x r s) (say Answer.Ok (started b n x r))
+      by_causes (Leaves k) (refused s) stays (start_causes k b n x r s) (say (Ok Answer.Ok) (started b n x r))
       (λ off. starts k b n x r ((in_range_lem k b n x r).0 (not-false _ (nor _ _ off.0).0)))
 
   sends : (others : ℕ) → others < 2 ^ k → Leaves k (xfer_step k others s)

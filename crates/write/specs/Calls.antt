@@ -1,5 +1,6 @@
 -- Calls on a write, one behind the other, and what they leave. Assumes nothing.
-use Rattle.std.specs.Prelude.{ℕ, ◌^◌, ◌<◌, Bool, true, false, List, [], ◌∷◌, ◌⊎◌, ◌≡◌}
+use Rattle.refusals.specs.declared.Refusal.{Refusal}
+use Rattle.std.specs.Prelude.{ℕ, ◌^◌, ◌<◌, Bool, List, [], ◌∷◌, ◌⊎◌, ◌≡◌, Ok, Result, is_err}
 use Rattle.write.specs.Rules.{unstarted}
 use Rattle.write.specs.Steps.{start_step, xfer_step, ack_step, miss_step, got_step, end_step}
 use Rattle.write.specs.declared.Write.{Write}
@@ -27,16 +28,8 @@ step_of k (got t o n) s = got_step k t o n s
 step_of k nexus s = end_step k s
 step_of k cancel s = end_step k s
 
-abbrev pub is_refused : Answer → Bool
-is_refused Answer.Ok = false
-is_refused Answer.Sent = false
-is_refused Answer.Retry = false
-is_refused Answer.Late = false
-is_refused Answer.More = false
-is_refused Answer.Done = false
-is_refused Answer.Fail = false
-is_refused Answer.End = false
-is_refused (Answer.Refused k) = true
+abbrev pub is_refused : Result Answer Refusal → Bool
+is_refused a = is_err a
 
 -- the state after some calls, the first first
 abbrev pub run : ℕ → List Call → Write → Write
@@ -65,7 +58,7 @@ pub record Left (k : ℕ) (s : Write) : Type 0 where
   pub n : ℕ
   pub x : ℕ
   pub r : ℕ
-  pub taken : (start_step k b n x r unstarted).answer ≡ Answer.Ok
+  pub taken : (start_step k b n x r unstarted).answer ≡ Ok Answer.Ok
   pub calls : List Call
   pub typed : AllTyped k calls
   pub leave : run k calls (start_step k b n x r unstarted).state ≡ s

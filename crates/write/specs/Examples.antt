@@ -1,5 +1,6 @@
 -- The listing of a write that loses its first XFER_RDY, line by line; and STARTs at the ends of their ranges. Assumes nothing.
-use Rattle.std.specs.Prelude.{ℕ, ◌+◌, ◌-◌, List, [], ◌∷◌}
+use Rattle.refusals.specs.declared.Refusal.{Refusal}
+use Rattle.std.specs.Prelude.{ℕ, ◌+◌, ◌-◌, List, [], ◌∷◌, Ok, Result}
 use Rattle.write.specs.Rules.{until}
 use Rattle.write.specs.Calls.{Call, start, xfer, ack, nak, got, step_of}
 use Rattle.write.specs.declared.Write.{Write}
@@ -8,17 +9,17 @@ use Rattle.write.specs.declared.Answer.{Answer}
 -- line number, word, next, bytes due of the range, tag, tags, used
 pub record Line : Type 0 where
   pub number : ℕ
-  pub word : Answer
+  pub word : Result Answer Refusal
   pub next : ℕ
   pub due : ℕ
   pub tag : ℕ
   pub tags : ℕ
   pub used : ℕ
 
-abbrev pub line : ℕ → Answer → ℕ → ℕ → ℕ → ℕ → ℕ → Line
+abbrev pub line : ℕ → Result Answer Refusal → ℕ → ℕ → ℕ → ℕ → ℕ → Line
 line number word next due tag tags used = record { number = number; word = word; next = next; due = due; tag = tag; tags = tags; used = used }
 
-abbrev pub shown : ℕ → Answer → Write → Line
+abbrev pub shown : ℕ → Result Answer Refusal → Write → Line
 shown i a s = line i a s.next (until s - s.next) s.tag s.tags s.used
 
 -- what some calls of s give, from line i on
@@ -31,16 +32,16 @@ listed = start 0 12 8 1 ∷ xfer 0 ∷ nak ∷ xfer 0 ∷ got 0 0 8 ∷ ack ∷ 
 
 abbrev pub output : List Line
 output =
-    line 1 Answer.Ok 0 8 0 0 0
-    ∷ line 2 Answer.Sent 0 8 0 1 0
-    ∷ line 3 Answer.Retry 0 8 0 1 1
-    ∷ line 4 Answer.Sent 0 8 1 3 1
-    ∷ line 5 Answer.Late 0 8 1 3 1
-    ∷ line 6 Answer.Ok 0 8 1 3 1
-    ∷ line 7 Answer.More 8 4 1 0 1
-    ∷ line 8 Answer.Sent 8 4 0 1 1
-    ∷ line 9 Answer.Ok 8 4 0 1 1
-    ∷ line 10 Answer.Done 12 0 0 0 1
+    line 1 (Ok Answer.Ok) 0 8 0 0 0
+    ∷ line 2 (Ok Answer.Sent) 0 8 0 1 0
+    ∷ line 3 (Ok Answer.Retry) 0 8 0 1 1
+    ∷ line 4 (Ok Answer.Sent) 0 8 1 3 1
+    ∷ line 5 (Ok Answer.Late) 0 8 1 3 1
+    ∷ line 6 (Ok Answer.Ok) 0 8 1 3 1
+    ∷ line 7 (Ok Answer.More) 8 4 1 0 1
+    ∷ line 8 (Ok Answer.Sent) 8 4 0 1 1
+    ∷ line 9 (Ok Answer.Ok) 8 4 0 1 1
+    ∷ line 10 (Ok Answer.Done) 12 0 0 0 1
     ∷ []
 
 -- the least and the largest numbers that START takes

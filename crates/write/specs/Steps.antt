@@ -1,5 +1,5 @@
 -- The write: what each call answers and leaves, row by row, and when it is refused. Assumes nothing.
-use Rattle.std.specs.Prelude.{ℕ, ◌+◌, ◌-◌, ◌%◌, ◌^◌, Bool, true, false, not, cond, ◌&&◌, ◌||◌, List, [], ◌∷◌, ◌++◌, ltb, leb, eqb}
+use Rattle.std.specs.Prelude.{ℕ, ◌+◌, ◌-◌, ◌%◌, ◌^◌, Bool, true, false, not, cond, ◌&&◌, ◌||◌, List, [], ◌∷◌, ◌++◌, ltb, leb, eqb, Some, None, Option, Err, Ok, Result}
 use Rattle.std.specs.Int.Bits.{bit_or}
 use Rattle.laws.specs.Tags.{has, lowest}
 use Rattle.refusals.specs.Causes.{Cause, ◌when◌, refuse}
@@ -14,12 +14,12 @@ use Rattle.write.specs.declared.Phase.{Phase}
 abbrev pub limit : ℕ
 limit = 64
 
-abbrev pub say : Answer → Write → Stepped
+abbrev pub say : Result Answer Refusal → Write → Stepped
 say a s = record { answer = a; state = s }
 
 -- a refusal leaves the state as it was
 abbrev pub refused : Write → Refusal → Stepped
-refused s k = say (Answer.Refused k) s
+refused s k = say (Err k) s
 
 -- s with these in place of its own
 abbrev pub with : Write → ℕ → ℕ → ℕ → ℕ → Phase → Write
@@ -92,10 +92,13 @@ avoided others s = bit_or (bit_or others s.tags) (previous s)
 abbrev pub free : ℕ → ℕ → Write → ℕ
 free k others s = lowest k (avoided others s)
 
+abbrev pub free_tag : ℕ → ℕ → Write → Option ℕ
+free_tag k others s = cond (ltb (free k others s) k) (Some (free k others s)) None
+
 -- 02 c.2: Add XFER_RDY and write data from 002 and SAS-1.1: a request for bytes, DATA frames received in order of offset, retry of XFER_RDY under a transfer tag that differs from the previous and from every tag in use, retransmit bit one.
 -- XFER: the lowest free tag, which is in use from now on
 abbrev pub asked : ℕ → Write → Stepped
-asked tag s = say Answer.Sent (with s s.next tag (s.tags + 2 ^ tag) s.used Phase.Wait)
+asked tag s = say (Ok Answer.Sent) (with s s.next tag (s.tags + 2 ^ tag) s.used Phase.Wait)
 
 -- what its frame says: the bytes of the range from the next on
 abbrev pub asked_length : Write → ℕ
@@ -108,15 +111,15 @@ retransmit_of s = cond (eqb s.tags 0) 0 1
 
 -- ACK: data is due
 abbrev pub acked : Write → Stepped
-acked s = say Answer.Ok (with s s.next s.tag s.tags s.used Phase.Take)
+acked s = say (Ok Answer.Ok) (with s s.next s.tag s.tags s.used Phase.Take)
 
 -- finishing sets tags to 0 and the phase, and nothing else
-abbrev pub finished : Answer → Phase → Write → Stepped
+abbrev pub finished : Result Answer Refusal → Phase → Write → Stepped
 finished a p s = say a (with s s.next s.tag 0 s.used p)
 
 -- NAK, TIMEOUT, LOST: a retry, or failed with R used
 unfoldable pub missed : Write → Stepped
-missed s = cond (leb s.resends s.used) (finished Answer.Fail Phase.Fail s) (say Answer.Retry (with s s.next s.tag s.tags (s.used + 1) Phase.Ask))
+missed s = cond (leb s.resends s.used) (finished (Ok Answer.Fail) Phase.Fail s) (say (Ok Answer.Retry) (with s s.next s.tag s.tags (s.used + 1) Phase.Ask))
 
 -- DATA under tag t: that of the XFER_RDY which was ACKed
 abbrev pub awaited : ℕ → Write → Bool
@@ -126,16 +129,16 @@ awaited t s = taking s.phase && eqb t s.tag
 -- DATA up to `to`: before the range's end that tag alone is in use; at it none is, and the next range is due, or at B+N nothing
 unfoldable pub taken : ℕ → Write → Stepped
 taken to s =
-    cond (ltb to (until s)) (say Answer.Ok (with s to s.tag (2 ^ s.tag) s.used Phase.Take))
-    (cond (ltb to (end_of s)) (say Answer.More (with s to s.tag 0 s.used Phase.Ask)) (say Answer.Done (with s to s.tag 0 s.used Phase.Done)))
+    cond (ltb to (until s)) (say (Ok Answer.Ok) (with s to s.tag (2 ^ s.tag) s.used Phase.Take))
+    (cond (ltb to (end_of s)) (say (Ok Answer.More) (with s to s.tag 0 s.used Phase.Ask)) (say (Ok Answer.Done) (with s to s.tag 0 s.used Phase.Done)))
 
 -- DATA under another tag in use is late, and does nothing
 unfoldable pub got : ℕ → ℕ → ℕ → Write → Stepped
-got t o n s = cond (awaited t s) (taken (o + n) s) (say Answer.Late s)
+got t o n s = cond (awaited t s) (taken (o + n) s) (say (Ok Answer.Late) s)
 
 -- NEXUS, CANCEL: ended at once
 abbrev pub ended : Write → Stepped
-ended s = finished Answer.End Phase.End s
+ended s = finished (Ok Answer.End) Phase.End s
 
 abbrev pub start_causes : ℕ → ℕ → ℕ → ℕ → ℕ → Write → List Cause
 start_causes k b n x r s = (Refusal.Rules when (not (in_range k b n x r) || not (keeps_rules k s))) ∷ (Refusal.Unfit when unfinished s.phase) ∷ []
@@ -181,7 +184,7 @@ abbrev pub end_causes : ℕ → Write → List Cause
 end_causes k s = (Refusal.Rules when not (keeps_rules k s)) ∷ (Refusal.Unfit when not (unfinished s.phase)) ∷ []
 
 unfoldable pub start_step : ℕ → ℕ → ℕ → ℕ → ℕ → Write → Stepped
-start_step k b n x r s = refuse (refused s) (start_causes k b n x r s) (say Answer.Ok (started b n x r))
+start_step k b n x r s = refuse (refused s) (start_causes k b n x r s) (say (Ok Answer.Ok) (started b n x r))
 
 unfoldable pub xfer_step : ℕ → ℕ → Write → Stepped
 xfer_step k others s = refuse (refused s) (xfer_causes k others s) (asked (free k others s) s)

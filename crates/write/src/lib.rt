@@ -6,14 +6,15 @@ ghost use Rattle.std.specs.Prelude.{◌≡◌};
 ghost use Rattle.write.specs.Rules.{unstarted};
 ghost use Rattle.write.specs.Steps.{limit, start_step, xfer_step, ack_step, miss_step, got_step, end_step};
 
-use refusals::{Checked, Refusal};
+use crate::rules::Placed;
+use refusals::Refusal;
 
 mod causes;
 mod rules;
 mod steps;
 mod tags;
 
-#[derive(Clone, Copy)]
+#[derive(Clone, Copy, PartialEq, Eq)]
 pub enum Phase {
     // Before START.
     New,
@@ -48,10 +49,9 @@ pub enum Answer {
     Done,
     Fail,
     End,
-    Refused(Refusal),
 }
 
-#[derive(Clone, Copy)]
+#[derive(Clone, Copy, PartialEq, Eq)]
 pub struct Write {
     // B, where the request begins.
     pub offset: u32,
@@ -72,9 +72,10 @@ pub struct Write {
     pub phase: Phase,
 }
 
+// A type of its own for each machine: a generic one would name both types wherever a clause now says Stepped.
 #[derive(Clone, Copy)]
 pub struct Stepped {
-    pub answer: Answer,
+    pub answer: Result<Answer, Refusal>,
     pub state: Write,
 }
 
@@ -100,25 +101,27 @@ impl Write {
     }
 
     #[tactic(auto, unfolding(crate::specs::Steps::start_step))]
-    pub fn start(mut self, b: u32, n: u32, x: u32, r: u32) -> Stepped
+    pub fn start(self, b: u32, n: u32, x: u32, r: u32) -> Stepped
         ensures { result ≡ start_step limit b n x r self }
     {
-        if !rules::in_range(b, n, x, r) | !self.keeps_rules() {
+        if !rules::in_range(b, n, x, r) || !self.keeps_rules() {
             return self.refused(Refusal::Rules);
         }
-        let p = self.phase;
-        if steps::unfinished(p) {
+        if self.phase.unfinished() {
             return self.refused(Refusal::Unfit);
         }
-        self.offset = b;
-        self.count = n;
-        self.burst = x;
-        self.resends = r;
-        self.next = b;
-        self.tag = 0;
-        self.tags = 0;
-        self.used = 0;
-        self.in_phase(Answer::Ok, Phase::Ask)
+        Stepped {
+            answer: Ok(Answer::Ok),
+            state: Write {
+                offset: b,
+                count: n,
+                burst: x,
+                resends: r,
+                next: b,
+                phase: Phase::Ask,
+                ..Write::unstarted()
+            },
+        }
     }
 
     // An XFER_RDY goes. The caller gives the tags in use by the port's other writes; this write's own may be among them.
@@ -129,14 +132,13 @@ impl Write {
         if !self.keeps_rules() {
             return self.refused(Refusal::Rules);
         }
-        let p = self.phase;
-        if !steps::asking(p) {
+        if !self.phase.asking() {
             return self.refused(Refusal::Unfit);
         }
-        let tag = self.free(others);
-        if TAGS <= tag {
+        // An unfinished write that keeps its rules is placed.
+        let Some(tag) = (Placed { write: self }).free(others) else {
             return self.refused(Refusal::Full);
-        }
+        };
         self.asked(tag)
     }
 
@@ -144,32 +146,23 @@ impl Write {
     pub fn ack(self) -> Stepped
         ensures { result ≡ ack_step limit self }
     {
-        let checked = self.answer_checked();
-        match checked {
-            Checked::Refused(k) => {
-                return self.refused(k);
-            }
-            Checked::Passed => {
-                return self.in_phase(Answer::Ok, Phase::Take);
-            }
+        if let Err(k) = self.answer_checked() {
+            return self.refused(k);
         }
+        self.in_phase(Answer::Ok, Phase::Take)
     }
 
     #[tactic(auto, unfolding(crate::specs::Steps::miss_step))]
     pub fn nak(self) -> Stepped
         ensures { result ≡ miss_step limit self }
     {
-        let checked = self.answer_checked();
-        match checked {
-            Checked::Refused(k) => {
-                return self.refused(k);
-            }
-            Checked::Passed => {
-                return self.missed();
-            }
+        if let Err(k) = self.answer_checked() {
+            return self.refused(k);
         }
+        self.missed()
     }
 
+    // The same as `nak`, as `lost` is: words of their own for the caller.
     pub fn timeout(self) -> Stepped
         ensures { result ≡ miss_step limit self }
     {
@@ -187,20 +180,15 @@ impl Write {
     pub fn got(self, transfer: u16, offset: u32, length: u32) -> Stepped
         ensures { result ≡ got_step limit transfer offset length self }
     {
-        let checked = self.data_checked(transfer, offset, length);
-        match checked {
-            Checked::Refused(k) => {
-                return self.refused(k);
-            }
-            Checked::Passed => {
-                if self.awaited(transfer) {
-                    return self.taken(offset + length);
-                }
-                return Stepped {
-                    answer: Answer::Late,
-                    state: self,
-                };
-            }
+        if let Err(k) = self.data_checked(transfer, offset, length) {
+            return self.refused(k);
+        }
+        if self.awaited(transfer) {
+            return Placed { write: self }.taken(offset + length);
+        }
+        Stepped {
+            answer: Ok(Answer::Late),
+            state: self,
         }
     }
 
@@ -211,13 +199,13 @@ impl Write {
         if !self.keeps_rules() {
             return self.refused(Refusal::Rules);
         }
-        let p = self.phase;
-        if !steps::unfinished(p) {
+        if !self.phase.unfinished() {
             return self.refused(Refusal::Unfit);
         }
         self.finished(Answer::End, Phase::End)
     }
 
+    // The same as `cancel`.
     pub fn nexus(self) -> Stepped
         ensures { result ≡ end_step limit self }
     {

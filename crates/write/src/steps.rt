@@ -1,67 +1,38 @@
 // What a call does that is not refused, row by row.
-ghost use Rattle.std.specs.Prelude.{◌≡◌, ◌+◌, ◌-◌, ◌<◌, min};
+ghost use Rattle.std.specs.Prelude.{◌≡◌, ◌<◌};
 ghost use Rattle.laws.specs.Tags.{digit};
 ghost use Rattle.write.specs.Rules.{range_of};
 ghost use Rattle.write.specs.Rules as rules;
 ghost use Rattle.write.specs.Steps.{limit, say, with, asked_length, retransmit_of, in_order};
 ghost use Rattle.write.specs.Steps as steps;
 
-use crate::{Answer, Phase, Stepped, Write, tags};
+use crate::rules::Placed;
+use crate::{Answer, Phase, Stepped, TAGS, Write, tags};
 use refusals::Refusal;
 
-pub(crate) fn unfinished(p: Phase) -> bool
-    ensures { result ≡ steps.unfinished p }
-{
-    match p {
-        Phase::New => false,
-        Phase::Ask => true,
-        Phase::Wait => true,
-        Phase::Take => true,
-        Phase::Done => false,
-        Phase::Fail => false,
-        Phase::End => false,
+impl Phase {
+    pub(crate) fn unfinished(self) -> bool
+        ensures { result ≡ steps.unfinished self }
+    {
+        matches!(self, Phase::Ask | Phase::Wait | Phase::Take)
     }
-}
 
-pub(crate) fn asking(p: Phase) -> bool
-    ensures { result ≡ steps.asking p }
-{
-    match p {
-        Phase::New => false,
-        Phase::Ask => true,
-        Phase::Wait => false,
-        Phase::Take => false,
-        Phase::Done => false,
-        Phase::Fail => false,
-        Phase::End => false,
+    pub(crate) fn asking(self) -> bool
+        ensures { result ≡ steps.asking self }
+    {
+        matches!(self, Phase::Ask)
     }
-}
 
-pub(crate) fn waiting(p: Phase) -> bool
-    ensures { result ≡ steps.waiting p }
-{
-    match p {
-        Phase::New => false,
-        Phase::Ask => false,
-        Phase::Wait => true,
-        Phase::Take => false,
-        Phase::Done => false,
-        Phase::Fail => false,
-        Phase::End => false,
+    pub(crate) fn waiting(self) -> bool
+        ensures { result ≡ steps.waiting self }
+    {
+        matches!(self, Phase::Wait)
     }
-}
 
-fn taking(p: Phase) -> bool
-    ensures { result ≡ steps.taking p }
-{
-    match p {
-        Phase::New => false,
-        Phase::Ask => false,
-        Phase::Wait => false,
-        Phase::Take => true,
-        Phase::Done => false,
-        Phase::Fail => false,
-        Phase::End => false,
+    fn taking(self) -> bool
+        ensures { result ≡ steps.taking self }
+    {
+        matches!(self, Phase::Take)
     }
 }
 
@@ -69,20 +40,7 @@ fn taking(p: Phase) -> bool
 pub(crate) fn sized(n: u32) -> bool
     ensures { result ≡ steps.sized n }
 {
-    (1 <= n) & (n <= 1024)
-}
-
-fn lesser(a: u64, b: u64) -> u64
-    ensures { result ≡ min a b }
-{
-    if a < b { a } else { b }
-}
-
-// a - b, or 0.
-fn minus(a: u64, b: u64) -> u64
-    ensures { result ≡ a - b }
-{
-    if a < b { 0 } else { a - b }
+    (1..=1024).contains(&n)
 }
 
 impl Write {
@@ -90,7 +48,7 @@ impl Write {
     fn range(self) -> u64
         ensures { result ≡ range_of self }
     {
-        if (self.burst == 0) | (self.next < self.offset) {
+        if self.burst == 0 || self.next < self.offset {
             return self.offset as u64;
         }
         let gone = self.next - self.offset;
@@ -101,21 +59,22 @@ impl Write {
     pub fn until(self) -> u64
         ensures { result ≡ rules.until self }
     {
-        lesser(self.range() + self.burst as u64, self.end())
+        (self.range() + self.burst as u64).min(self.end())
     }
 
     // How many bytes an XFER_RDY asks for.
     pub fn asked_length(self) -> u64
         ensures { result ≡ asked_length self }
     {
-        minus(self.until(), self.next as u64)
+        self.until().saturating_sub(self.next as u64)
     }
 
+    // A number, as the frame's field is one.
     // Its retransmit bit, before it goes.
     pub fn retransmit(self) -> u8
         ensures { result ≡ retransmit_of self }
     {
-        if self.tags == 0 { 0 } else { 1 }
+        u8::from(self.tags != 0)
     }
 
     // A refusal, which leaves the state as it was.
@@ -123,56 +82,26 @@ impl Write {
         ensures { result ≡ steps.refused self k }
     {
         Stepped {
-            answer: Answer::Refused(k),
+            answer: Err(k),
             state: self,
         }
     }
 
     // An answer, with the state in another phase.
-    pub(crate) fn in_phase(self, answer: Answer, p: Phase) -> Stepped
-        ensures { result ≡ say answer (with self self.next self.tag self.tags self.used p) }
+    pub(crate) fn in_phase(self, answer: Answer, phase: Phase) -> Stepped
+        ensures { result ≡ say (Ok answer) (with self self.next self.tag self.tags self.used phase) }
     {
         Stepped {
-            answer,
-            state: Write {
-                offset: self.offset,
-                count: self.count,
-                burst: self.burst,
-                resends: self.resends,
-                next: self.next,
-                tag: self.tag,
-                tags: self.tags,
-                used: self.used,
-                phase: p,
-            },
+            answer: Ok(answer),
+            state: Write { phase, ..self },
         }
     }
 
-    pub(crate) fn finished(mut self, answer: Answer, p: Phase) -> Stepped
-        ensures { result ≡ steps.finished answer p self }
+    pub(crate) fn finished(mut self, answer: Answer, phase: Phase) -> Stepped
+        ensures { result ≡ steps.finished (Ok answer) phase self }
     {
         self.tags = 0;
-        self.in_phase(answer, p)
-    }
-
-    // The set of the tag of the XFER_RDY before.
-    fn previous(self) -> u64
-        requires { self.tag < limit }
-        ensures { result ≡ steps.previous self }
-    {
-        if (self.next == self.offset) & (self.tags == 0) {
-            return 0;
-        }
-        tags::alone(self.tag as u32)
-    }
-
-    // The lowest free tag, TAGS where none is.
-    pub(crate) fn free(self, others: u64) -> u32
-        requires { self.tag < limit }
-        ensures { result ≡ steps.free limit others self }
-    {
-        let previous = self.previous();
-        tags::lowest(others | self.tags | previous)
+        self.in_phase(answer, phase)
     }
 
     // An XFER_RDY under a tag that is not in use.
@@ -180,7 +109,7 @@ impl Write {
         requires { (tag < limit) × (digit self.tags tag ≡ 0) }
         ensures { result ≡ steps.asked tag self }
     {
-        self.tags = self.tags | tags::alone(tag);
+        self.tags |= tags::alone(tag);
         self.tag = tag as u16;
         self.in_phase(Answer::Sent, Phase::Wait)
     }
@@ -193,7 +122,7 @@ impl Write {
         if self.resends <= self.used {
             return self.finished(Answer::Fail, Phase::Fail);
         }
-        self.used = self.used + 1;
+        self.used += 1;
         self.in_phase(Answer::Retry, Phase::Ask)
     }
 
@@ -201,18 +130,14 @@ impl Write {
     pub fn awaited(self, transfer: u16) -> bool
         ensures { result ≡ steps.awaited transfer self }
     {
-        let p = self.phase;
-        let taking = taking(p);
-        taking & (transfer == self.tag)
+        self.phase.taking() && transfer == self.tag
     }
 
     // Whether DATA under this tag came before its XFER_RDY's ACK was reported.
     pub(crate) fn early(self, transfer: u16) -> bool
         ensures { result ≡ steps.early transfer self }
     {
-        let p = self.phase;
-        let waiting = waiting(p);
-        waiting & (transfer == self.tag)
+        self.phase.waiting() && transfer == self.tag
     }
 
     fn within(self, offset: u32, length: u32) -> bool
@@ -220,14 +145,13 @@ impl Write {
     {
         let to = offset as u64 + length as u64;
         let until = self.until();
-        (self.next <= offset) & ((to <= until) & ((length % 4 == 0) | (to == until)))
+        self.next <= offset && to <= until && (length % 4 == 0 || to == until)
     }
 
     fn in_order(self, transfer: u16, offset: u32) -> bool
         ensures { result ≡ in_order transfer offset self }
     {
-        let awaited = self.awaited(transfer);
-        !awaited | (offset == self.next)
+        !self.awaited(transfer) || offset == self.next
     }
 
     // Whether DATA lies where it may, under a tag that it may.
@@ -235,24 +159,46 @@ impl Write {
         ensures { result ≡ steps.fits transfer offset length self }
     {
         tags::has(self.tags, transfer)
-            & (self.within(offset, length) & self.in_order(transfer, offset))
+            && self.within(offset, length)
+            && self.in_order(transfer, offset)
+    }
+}
+
+#[tactic(auto, using(crate::proofs::Kept::tag_less))]
+impl Placed {
+    // The set of the tag of the XFER_RDY before.
+    fn previous(self) -> u64
+        ensures { result ≡ steps.previous self.write }
+    {
+        let w = self.write;
+        if w.next == w.offset && w.tags == 0 {
+            return 0;
+        }
+        tags::alone(w.tag as u32)
+    }
+
+    // The lowest free tag, if one is.
+    pub(crate) fn free(self, others: u64) -> Option<u32>
+        ensures { result ≡ steps.free_tag limit others self.write }
+    {
+        let tag = tags::lowest(others | self.write.tags | self.previous());
+        (tag < TAGS).then_some(tag)
     }
 
     // DATA up to `to`.
-    #[tactic(auto, unfolding(crate::specs::Steps::taken))]
-    pub(crate) fn taken(mut self, to: u32) -> Stepped
-        requires { self.tag < limit }
-        ensures { result ≡ steps.taken to self }
+    #[tactic(auto, using(crate::proofs::Kept::tag_less), unfolding(crate::specs::Steps::taken))]
+    pub(crate) fn taken(self, to: u32) -> Stepped
+        ensures { result ≡ steps.taken to self.write }
     {
-        let until = self.until();
-        self.next = to;
-        if (to as u64) < until {
-            self.tags = tags::alone(self.tag as u32);
-            return self.in_phase(Answer::Ok, Phase::Take);
+        let w = self.write;
+        let next = Write { next: to, ..w };
+        if (to as u64) < w.until() {
+            let tags = tags::alone(w.tag as u32);
+            return Write { tags, ..next }.in_phase(Answer::Ok, Phase::Take);
         }
-        if (to as u64) < self.end() {
-            return self.finished(Answer::More, Phase::Ask);
+        if (to as u64) < w.end() {
+            return next.finished(Answer::More, Phase::Ask);
         }
-        self.finished(Answer::Done, Phase::Done)
+        next.finished(Answer::Done, Phase::Done)
     }
 }

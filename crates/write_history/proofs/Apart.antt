@@ -1,5 +1,6 @@
 -- Two writes never share a transfer tag: a call leaves a tag in use that was in use, or one that was none of the others', among whom the other
 -- write's are. Assumes nothing.
+use Rattle.std.specs.Prelude.{Ok}
 use Prim.Native.Nat.{ℕ, ◌+◌, ◌^◌, ◌<◌}
 use mathlib.Core.List.{List, [], ◌∷◌, ◌++◌}
 use mathlib.Core.Logic.{◌⊎◌, inl, inr}
@@ -82,7 +83,7 @@ module _ (k : ℕ) (s : Write) (h : List Entry) (i : Inv k s (view h)) (others t
   grows : (c : Call) → Typed k c → Grows c (step_of k c s)
   unfolding step_of start_step ack_step
   grows (start b n x r) typed =
-      by_causes (Grows (start b n x r)) (refused s) (λ r e. inl e) (start_causes k b n x r s) (say Answer.Ok (steps.started b n x r)) (λ off. freed (start b n x r))
+      by_causes (Grows (start b n x r)) (refused s) (λ r e. inl e) (start_causes k b n x r s) (say (Ok Answer.Ok) (steps.started b n x r)) (λ off. freed (start b n x r))
   grows (xfer given) typed = asks given typed
   grows ack typed = by_causes (Grows ack) (refused s) (λ r e. inl e) (answer_causes k s) (steps.acked s) (λ off e. inl e)
   grows nak typed = misses nak

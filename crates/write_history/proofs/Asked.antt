@@ -1,5 +1,6 @@
 -- XFER keeps the invariant, and its XFER_RDY says what the history has it say: the tag is picked out of what is free, and the range is the present one.
 -- Assumes nothing.
+use Rattle.std.specs.Prelude.{Ok}
 use Prim.Native.Nat.{ℕ, suc, ◌+◌, ◌-◌, ◌*◌, ◌^◌, ◌<◌, min}
 use mathlib.Core.Bool.{Bool, cond, ◌&&◌}
 use mathlib.Core.List.{List, [], ◌∷◌}
@@ -134,7 +135,7 @@ module _ (k : ℕ) (s : Write) (h : List Entry) (i : Inv k s (view h)) where
         record {
           keeps = effects.goes k s (view h) i a others x like typed less;
           says = (asks_so a less, tt);
-          word = calm (view h) (note (history.asked x) (view h)) Answer.Sent refl refl refl;
+          word = calm (view h) (note (history.asked x) (view h)) (Ok Answer.Sent) (λ e. cc) (λ e. cc) refl;
           told = (refl, tt);
           goes = λ _. refl;
           kept = impossible;

@@ -1,4 +1,5 @@
 -- DATA keeps the invariant: under the awaited tag it is taken just as the history takes it, and under another tag in use it is late. Assumes nothing.
+use Rattle.std.specs.Prelude.{Ok}
 use Prim.Native.Nat.{ℕ, ◌+◌, ◌^◌, ◌≤◌}
 use mathlib.Core.Bool.{Bool, true, false, not, cond, ◌&&◌}
 use mathlib.Core.List.{List, [], ◌∷◌}
@@ -93,7 +94,7 @@ module _ (k : ℕ) (s : Write) (h : List Entry) (i : Inv k s (view h)) where
             lies = (omega arith, omega arith);
           }
 
-      comes_so : (st : Stepped) → (end_of_data d ≡ end_of_request (view h).request → st.answer ≡ Answer.Done) → Comes s (view h) d st
+      comes_so : (st : Stepped) → (end_of_data d ≡ end_of_request (view h).request → st.answer ≡ Ok Answer.Done) → Comes s (view h) d st
       comes_so st done =
           record {
             takes' = λ _. taken_so;
@@ -102,12 +103,12 @@ module _ (k : ℕ) (s : Write) (h : List Entry) (i : Inv k s (view h)) where
           }
 
       -- its word, by whether it ends the request and its range
-      word_is : {a r : Bool} → ends_all (view h) d ≡ a → eqb (end_of_data d) (end_of_xfer w.latest.one) ≡ r → word_by (view h) (history.came d) ≡ cond a Answer.Done (cond r Answer.More Answer.Ok)
+      word_is : {a r : Bool} → ends_all (view h) d ≡ a → eqb (end_of_data d) (end_of_xfer w.latest.one) ≡ r → word_by (view h) (history.came d) ≡ cond a (Ok Answer.Done) (cond r (Ok Answer.More) (Ok Answer.Ok))
       word_is {a} {r} all range =
-          let rest = cond (ends_all (view h) d) Answer.Done (cond (ends_range (view h).asks d) Answer.More Answer.Ok) in
-          ap (λ (b : Bool). cond b rest Answer.Late) taken_it
-          ∙ ap (λ (xs : List Xfer). cond (ends_all (view h) d) Answer.Done (cond (ends_range xs d) Answer.More Answer.Ok)) w.latest.is
-          ∙ (λ j. cond (all j) Answer.Done (cond (range j) Answer.More Answer.Ok))
+          let rest = cond (ends_all (view h) d) (Ok Answer.Done) (cond (ends_range (view h).asks d) (Ok Answer.More) (Ok Answer.Ok)) in
+          ap (λ (b : Bool). cond b rest (Ok Answer.Late)) taken_it
+          ∙ ap (λ (xs : List Xfer). cond (ends_all (view h) d) (Ok Answer.Done) (cond (ends_range xs d) (Ok Answer.More) (Ok Answer.Ok))) w.latest.is
+          ∙ (λ j. cond (all j) (Ok Answer.Done) (cond (range j) (Ok Answer.More) (Ok Answer.Ok)))
 
       takes_so : Makes (history.came d) (steps.taken (o + n) s)
       unfolding steps.taken
@@ -119,8 +120,8 @@ module _ (k : ℕ) (s : Write) (h : List Entry) (i : Inv k s (view h)) where
           (λ b. let l = ltb-true (o + n) (until s) b in
           record {
             keeps = subst (λ (to : ℕ). Inv k (with s to s.tag (2 ^ s.tag) s.used Phase.Take) (note e (view h))) end_of_lem (effects.moves_on k s (view h) i w d under_is first_is long inside (omega arith));
-            says = (comes_so (say Answer.Ok (with s (o + n) s.tag (2 ^ s.tag) s.used Phase.Take)) (λ q. absurd (omega arith)), tt);
-            word = calm (view h) (note e (view h)) Answer.Ok refl refl kept_failures;
+            says = (comes_so (say (Ok Answer.Ok) (with s (o + n) s.tag (2 ^ s.tag) s.used Phase.Take)) (λ q. absurd (omega arith)), tt);
+            word = calm (view h) (note e (view h)) (Ok Answer.Ok) (λ e. cc) (λ e. cc) kept_failures;
             told = (sym (word_is (ne_eqb (end_of_data d) (end_of_request (view h).request) (λ q. (omega arith))) (ne_eqb (end_of_data d) (end_of_xfer w.latest.one) (λ q. (let to = w.latest.to in omega arith)))), tt);
             goes = λ _. refl;
             kept = impossible;
@@ -130,8 +131,8 @@ module _ (k : ℕ) (s : Write) (h : List Entry) (i : Inv k s (view h)) where
           (λ c. let m = ltb-true (o + n) (end_of s) c in
           record {
             keeps = subst (λ (to : ℕ). Inv k (with s to s.tag 0 s.used Phase.Ask) (note e (view h))) end_of_lem (effects.fills_up k s (view h) i w d under_is first_is long inside (omega arith) (omega arith));
-            says = (comes_so (say Answer.More (with s (o + n) s.tag 0 s.used Phase.Ask)) (λ q. absurd (omega arith)), tt);
-            word = calm (view h) (note e (view h)) Answer.More refl refl kept_failures;
+            says = (comes_so (say (Ok Answer.More) (with s (o + n) s.tag 0 s.used Phase.Ask)) (λ q. absurd (omega arith)), tt);
+            word = calm (view h) (note e (view h)) (Ok Answer.More) (λ e. cc) (λ e. cc) kept_failures;
             told = (sym (word_is (ne_eqb (end_of_data d) (end_of_request (view h).request) (λ q. (omega arith))) (eq-eqb (end_of_data d) (end_of_xfer w.latest.one) (let to = w.latest.to in omega arith))), tt);
             goes = λ _. refl;
             kept = impossible;
@@ -141,10 +142,10 @@ module _ (k : ℕ) (s : Write) (h : List Entry) (i : Inv k s (view h)) where
           let whole = kept.next in
           record {
             keeps = subst (λ (to : ℕ). Inv k (with s to s.tag 0 s.used Phase.Done) (note e (view h))) end_of_lem kept;
-            says = (comes_so (say Answer.Done (with s (o + n) s.tag 0 s.used Phase.Done)) (λ q. refl), tt);
+            says = (comes_so (say (Ok Answer.Done) (with s (o + n) s.tag 0 s.used Phase.Done)) (λ q. refl), tt);
             word = record {
               done = λ _. (kept_request, ap (λ (b : ℕ). last_end b (note e (view h)).taken) (made.offset_is k s h i) ∙ sym whole ∙ (let ends : end_of_data d ≡ end_of_request (view h).request = omega arith in ends));
-              fails = (impossible, λ p. (let one = p.0 in let two = p.1 in let same = kept_failures in absurd (omega arith)));
+              fails = (λ e. cc, λ p. (let one = p.0 in let two = p.1 in let same = kept_failures in absurd (omega arith)));
             };
             told = (sym (word_is (eq-eqb (end_of_data d) (end_of_request (view h).request) (omega arith)) refl), tt);
             goes = λ _. refl;
@@ -185,7 +186,7 @@ module _ (k : ℕ) (s : Write) (h : List Entry) (i : Inv k s (view h)) where
         let w = made.live k s h i Phase.Take p in
         record { q = w.q; open' = w.is; latest = w.latest; off = off_tag w.q w.latest (ap (λ (p : Phase). taking p && eqb t s.tag) (sym p) ∙ waits) }
 
-    late_so : Unfinished s.phase → Behind → digit s.tags t ≡ 1 → s.next ≤ o → o + n ≤ until s → Makes (history.came d) (say Answer.Late s)
+    late_so : Unfinished s.phase → Behind → digit s.tags t ≡ 1 → s.next ≤ o → o + n ≤ until s → Makes (history.came d) (say (Ok Answer.Late) s)
     late_so works b own least most =
         let l = b.latest in
         let low = b.open'.lies.least in
@@ -211,8 +212,8 @@ module _ (k : ℕ) (s : Write) (h : List Entry) (i : Inv k s (view h)) where
             },
             tt,
           );
-          word = calm (view h) (note (history.came d) (view h)) Answer.Late refl refl kept_failures;
-          told = (sym (ap (λ (c : Bool). cond c (cond (ends_all (view h) d) Answer.Done (cond (ends_range (view h).asks d) Answer.More Answer.Ok)) Answer.Late) b.off), tt);
+          word = calm (view h) (note (history.came d) (view h)) (Ok Answer.Late) (λ e. cc) (λ e. cc) kept_failures;
+          told = (sym (ap (λ (c : Bool). cond c (cond (ends_all (view h) d) (Ok Answer.Done) (cond (ends_range (view h).asks d) (Ok Answer.More) (Ok Answer.Ok))) (Ok Answer.Late)) b.off), tt);
           goes = λ _. is_working s.phase works;
           kept = impossible;
         }

@@ -1,4 +1,6 @@
 -- What request c) asks of a write follows from what every call keeps and says. Assumes nothing.
+use Rattle.refusals.specs.declared.Refusal.{Refusal}
+use Rattle.std.specs.Prelude.{Ok, Result}
 use Prim.Native.Nat.{ℕ, ◌+◌, ◌≤◌}
 use mathlib.Core.Bool.{Bool, true, false, not, cond}
 use mathlib.Core.List.{List, [], ◌∷◌, ◌++◌}
@@ -22,20 +24,9 @@ use Rattle.write_history.specs.Demand.{end_of_request, last_end, EndToEnd, Cover
 use Rattle.write_history.proofs.Alike.{self}
 use Rattle.write_history.proofs.Covers.{covers}
 use Rattle.write_history.proofs.Invariant.{Live, Inv}
-use Rattle.write_history.proofs.Says.{is_done, is_fail, AllSaid, Told}
+use Rattle.write_history.proofs.Says.{AllSaid, Told}
 use Rattle.write_history.proofs.Says as says
 use Rattle.write_history.proofs.Steps.{makes}
-
-is_fail_lem : (a : Answer) → is_fail a ≡ true → a ≡ Answer.Fail
-is_fail_lem Answer.Ok e = impossible e
-is_fail_lem Answer.Sent e = impossible e
-is_fail_lem Answer.Retry e = impossible e
-is_fail_lem Answer.Late e = impossible e
-is_fail_lem Answer.More e = impossible e
-is_fail_lem Answer.Done e = impossible e
-is_fail_lem Answer.Fail e = refl
-is_fail_lem Answer.End e = impossible e
-is_fail_lem (Answer.Refused k) e = impossible e
 
 module _ (k : ℕ) (s : Write) (v : View) where
   -- the tags in use and the failures, while the write is unfinished
@@ -69,10 +60,10 @@ module _ (k : ℕ) (s : Write) (h : List Entry) (i : Inv k s (view h)) (e : Entr
   said : (es : List Entry) → entries e st.answer ≡ es → AllSaid k s (view h) st es
   said es same = subst (AllSaid k s (view h) st) same c.says
 
-  whole : st.answer ≡ Answer.Done → Covers (view h).request.offset (end_of_request (view h).request) (view (entries e st.answer ++ h)).taken
+  whole : st.answer ≡ Ok Answer.Done → Covers (view h).request.offset (end_of_request (view h).request) (view (entries e st.answer ++ h)).taken
   whole d =
       let w = view (entries e st.answer ++ h) in
-      let word = c.word.done (ap is_done d) in
+      let word = c.word.done d in
       let from : st.state.offset ≡ (view h).request.offset = sym (ap (λ (q : Request). q.offset) c.keeps.request) ∙ ap (λ (q : Request). q.offset) word.0 in
       covers (view h).request.offset (end_of_request (view h).request) w.taken (subst (λ (b : ℕ). EndToEnd b w.taken) from c.keeps.order) word.1
 
@@ -88,7 +79,7 @@ module _ (k : ℕ) (s : Write) (h : List Entry) (i : Inv k s (view h)) (e : Entr
     where
       by : (b : Bool) → is_refused st.answer ≡ b → unfinished st.state.phase ≡ underway (cond b [] (e ∷ []) ++ h)
       by true off = ap (λ (w : Write). unfinished w.phase) (c.kept off) ∙ l
-      by false on = c.goes on ∙ ap (λ (a : Answer). not (final a)) (subst (λ (b : Bool). Told (view h) st (cond b [] (e ∷ []))) on c.told).0
+      by false on = c.goes on ∙ ap (λ (a : Result Answer Refusal). not (final a)) (subst (λ (b : Bool). Told (view h) st (cond b [] (e ∷ []))) on c.told).0
 
   pub demand : unfinished s.phase ≡ underway h → WriteDemand k s h (entries e st.answer) st
   demand lives =
@@ -106,7 +97,7 @@ module _ (k : ℕ) (s : Write) (h : List Entry) (i : Inv k s (view h)) (e : Entr
         freed = idle k s (view h) s.phase i.live;
         used = λ u. (counts k s (view h) s.phase i.live u).failures;
         bounded = i.used;
-        fails = (λ f. c.word.fails.0 (ap is_fail f), λ p. is_fail_lem st.answer (c.word.fails.1 p));
+        fails = c.word.fails;
         few = subst (λ (q : Request). length (view h).asks ≤ ranges q.count q.burst + q.resends) (sym i.request) i.few;
         lives = lives;
         word = λ f is. (subst (Told (view h) st) is c.told).0;

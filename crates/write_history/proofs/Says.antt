@@ -1,6 +1,8 @@
 -- What one call says of a write with its history: of the entry that it adds, of the word it answers, and of the invariant behind it. Assumes nothing.
+use Rattle.refusals.specs.declared.Refusal.{Refusal}
+use Rattle.std.specs.Prelude.{Ok, Result}
 use Prim.Native.Nat.{ℕ, ◌+◌}
-use mathlib.Core.Bool.{Bool, true, false, not}
+use mathlib.Core.Bool.{true, false, not}
 use mathlib.Core.List.{List, [], ◌∷◌, ◌++◌}
 use mathlib.Core.Logic.{◌↔◌}
 use mathlib.Core.Path.{◌≡◌}
@@ -14,33 +16,11 @@ use Rattle.write_history.specs.Words.{word_by, final}
 use Rattle.write_history.specs.Demand.{end_of_request, last_end, Asks, Takes, Late}
 use Rattle.write_history.proofs.Invariant.{Inv}
 
-abbrev pub is_done : Answer → Bool
-is_done Answer.Ok = false
-is_done Answer.Sent = false
-is_done Answer.Retry = false
-is_done Answer.Late = false
-is_done Answer.More = false
-is_done Answer.Done = true
-is_done Answer.Fail = false
-is_done Answer.End = false
-is_done (Answer.Refused k) = false
-
-abbrev pub is_fail : Answer → Bool
-is_fail Answer.Ok = false
-is_fail Answer.Sent = false
-is_fail Answer.Retry = false
-is_fail Answer.Late = false
-is_fail Answer.More = false
-is_fail Answer.Done = false
-is_fail Answer.Fail = true
-is_fail Answer.End = false
-is_fail (Answer.Refused k) = false
-
 -- of data that came: it was taken in order, or is late, and was taken up to the request's end exactly if complete is answered
 pub record Comes (s : Write) (v : View) (d : Data) (st : Stepped) : Type 0 where
   pub takes' : takes v d ≡ true → Takes v d
   pub late : takes v d ≡ false → Late s v d st
-  pub done : takes v d ≡ true → end_of_data d ≡ end_of_request v.request → st.answer ≡ Answer.Done
+  pub done : takes v d ≡ true → end_of_data d ≡ end_of_request v.request → st.answer ≡ Ok Answer.Done
 
 -- of an entry
 abbrev pub Said : ℕ → Write → View → Stepped → Entry → Type 0
@@ -58,9 +38,9 @@ AllSaid k s v st [] = Unit {0}
 AllSaid k s v st (e ∷ es) = Said k s v st e × AllSaid k s v st es
 
 -- the word is the history's: complete only at the request's end, and failed exactly at failure R+1
-pub record Word (v w : View) (a : Answer) : Type 0 where
-  pub done : is_done a ≡ true → (w.request ≡ v.request) × (last_end v.request.offset w.taken ≡ end_of_request v.request)
-  pub fails : (is_fail a ≡ true) ↔ ((v.failures ≡ v.request.resends) × (w.failures ≡ v.request.resends + 1))
+pub record Word (v w : View) (a : Result Answer Refusal) : Type 0 where
+  pub done : a ≡ Ok Answer.Done → (w.request ≡ v.request) × (last_end v.request.offset w.taken ≡ end_of_request v.request)
+  pub fails : (a ≡ Ok Answer.Fail) ↔ ((v.failures ≡ v.request.resends) × (w.failures ≡ v.request.resends + 1))
 
 -- the word is the history's
 abbrev pub Told : View → Stepped → List Entry → Type 0

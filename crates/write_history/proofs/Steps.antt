@@ -1,5 +1,6 @@
 -- Any call keeps the invariant, and says of its entry and by its word what the history has it say: the causes that it passed give what the
 -- effect asks for. Assumes nothing.
+use Rattle.std.specs.Prelude.{Ok}
 use Prim.Native.Nat.{ℕ, suc, ◌+◌}
 use mathlib.Core.Bool.{Bool, not, cond}
 use mathlib.Core.List.{List}
@@ -43,13 +44,13 @@ module _ (k : ℕ) (s : Write) (h : List Entry) (i : Inv k s (view h)) where
   unfolding start_step
   starts b n x r =
       let e = history.started (record { offset = b; count = n; burst = x; resends = r }) in
-      by_causes (Makes e) (refused s) (made.stays k s h i e) (start_causes k b n x r s) (say Answer.Ok (steps.started b n x r))
+      by_causes (Makes e) (refused s) (made.stays k s h i e) (start_causes k b n x r s) (say (Ok Answer.Ok) (steps.started b n x r))
       (λ off.
       let range = (in_range_lem k b n x r).0 (not-false _ (nor (not (in_range k b n x r)) (not (keeps_rules k s)) off.0).0) in
       record {
         keeps = effects.begun k b n x r range;
         says = (tt, tt);
-        word = record { done = impossible; fails = (impossible, λ p. (let two = p.1 in absurd (omega arith))) };
+        word = record { done = λ e. cc; fails = (λ e. cc, λ p. (let two = p.1 in absurd (omega arith))) };
         told = (refl, tt);
         goes = λ _. refl;
         kept = impossible;
@@ -63,7 +64,7 @@ module _ (k : ℕ) (s : Write) (h : List Entry) (i : Inv k s (view h)) where
       (λ off. record {
         keeps = effects.overs k s (view h) i Phase.End (view h) refl refl refl refl;
         says = (tt, tt);
-        word = calm (view h) (view h) Answer.End refl refl refl;
+        word = calm (view h) (view h) (Ok Answer.End) (λ e. cc) (λ e. cc) refl;
         told = (refl, tt);
         goes = λ _. refl;
         kept = impossible;
@@ -76,11 +77,11 @@ module _ (k : ℕ) (s : Write) (h : List Entry) (i : Inv k s (view h)) where
       by_causes (Makes history.acked) (refused s) (made.stays k s h i history.acked) (answer_causes k s) (steps.acked s)
       (λ off.
       let w = made.live k s h i Phase.Wait (wait_phase s.phase (not-false _ off.1.0)) in
-      record { keeps = effects.acks k s (view h) i w; says = (w.due, tt); word = calm (view h) (note history.acked (view h)) Answer.Ok refl refl refl; told = (refl, tt); goes = λ _. refl; kept = impossible })
+      record { keeps = effects.acks k s (view h) i w; says = (w.due, tt); word = calm (view h) (note history.acked (view h)) (Ok Answer.Ok) (λ e. cc) (λ e. cc) refl; told = (refl, tt); goes = λ _. refl; kept = impossible })
 
   -- whether every retry was used, by the history
-  spent_is : Waiting k s (view h) → {t : Bool} → leb s.resends s.used ≡ t → missed_by (view h) ≡ cond t Answer.Fail Answer.Retry
-  spent_is w {t} e = (λ j. cond (leb (made.resends_is k s h i j) (sym w.is.failures j)) Answer.Fail Answer.Retry) ∙ ap (λ (b : Bool). cond b Answer.Fail Answer.Retry) e
+  spent_is : Waiting k s (view h) → {t : Bool} → leb s.resends s.used ≡ t → missed_by (view h) ≡ cond t (Ok Answer.Fail) (Ok Answer.Retry)
+  spent_is w {t} e = (λ j. cond (leb (made.resends_is k s h i j) (sym w.is.failures j)) (Ok Answer.Fail) (Ok Answer.Retry)) ∙ ap (λ (b : Bool). cond b (Ok Answer.Fail) (Ok Answer.Retry)) e
 
   -- NAK, TIMEOUT and LOST alike
   misses : (e : Entry) → note e (view h) ≡ history.with_fate (history.fated failed (view h).fate) (suc (view h).failures) (view h)
@@ -98,8 +99,8 @@ module _ (k : ℕ) (s : Write) (h : List Entry) (i : Inv k s (view h)) where
       (λ t. let l = leb-true s.resends s.used t in
       record {
         keeps = effects.overs k s (view h) i Phase.Fail (note e (view h)) refl (ap (λ (v : View). v.request) is) (ap (λ (v : View). v.taken) is) (ap (λ (v : View). v.asks) is);
-        says = (said (finished Answer.Fail Phase.Fail s) w.due, tt);
-        word = record { done = impossible; fails = (λ _. (omega arith, omega arith), λ _. refl) };
+        says = (said (finished (Ok Answer.Fail) Phase.Fail s) w.due, tt);
+        word = record { done = λ e. cc; fails = (λ _. (omega arith, omega arith), λ _. refl) };
         told = (sym (spent_is w t) ∙ word, tt);
         goes = λ _. refl;
         kept = impossible;
@@ -107,8 +108,8 @@ module _ (k : ℕ) (s : Write) (h : List Entry) (i : Inv k s (view h)) where
       (λ t. let l = leb-false s.resends s.used t in
       record {
         keeps = subst (Inv k (with s s.next s.tag s.tags (s.used + 1) Phase.Ask)) (sym is) (effects.misses k s (view h) i w (omega arith));
-        says = (said (say Answer.Retry (with s s.next s.tag s.tags (s.used + 1) Phase.Ask)) w.due, tt);
-        word = record { done = impossible; fails = (impossible, λ p. (let one = p.0 in absurd (omega arith))) };
+        says = (said (say (Ok Answer.Retry) (with s s.next s.tag s.tags (s.used + 1) Phase.Ask)) w.due, tt);
+        word = record { done = λ e. cc; fails = (λ e. cc, λ p. (let one = p.0 in absurd (omega arith))) };
         told = (sym (spent_is w t) ∙ word, tt);
         goes = λ _. refl;
         kept = impossible;

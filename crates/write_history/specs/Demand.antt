@@ -1,6 +1,6 @@
 -- What request c) asks of a write, sentence by sentence: of a write s with the history h, and of one call more, answered `next`, that adds
 -- the entries es. Assumes nothing.
-use Rattle.std.specs.Prelude.{ℕ, ◌+◌, ◌-◌, ◌/◌, ◌≤◌, ◌<◌, min, true, false, List, [], ◌∷◌, ◌++◌, ◌⊎◌, ◌↔◌, ◌≡◌, length}
+use Rattle.std.specs.Prelude.{ℕ, ◌+◌, ◌-◌, ◌/◌, ◌≤◌, ◌<◌, min, true, false, List, [], ◌∷◌, ◌++◌, ◌⊎◌, ◌↔◌, ◌≡◌, length, Ok}
 use Rattle.laws.specs.Tags.{digit}
 use Rattle.write.specs.Steps.{unfinished}
 use Rattle.write.specs.declared.Write.{Write}
@@ -94,7 +94,7 @@ pub record Late (s : Write) (v : View) (d : Data) (next : Stepped) : Type 0 wher
   pub earlier : List Xfer
   pub is : v.asks ≡ latest ∷ earlier
   pub lies : (latest.offset ≤ d.offset) × (end_of_data d ≤ end_of_xfer latest)
-  pub stays : next ≡ record { answer = Answer.Late; state = s }
+  pub stays : next ≡ record { answer = Ok Answer.Late; state = s }
 
 pub record WriteDemand (k : ℕ) (s : Write) (h es : List Entry) (next : Stepped) : Type 0 where
   -- the state holds what START was given
@@ -104,9 +104,9 @@ pub record WriteDemand (k : ℕ) (s : Write) (h es : List Entry) (next : Stepped
   -- and the state's next byte is behind them
   pub next_is : s.next ≡ last_end (view h).request.offset (view h).taken
   -- complete is answered only once the taken frames cover the request, each byte once and nothing outside it,
-  pub complete : next.answer ≡ Answer.Done → Covers (view h).request.offset (end_of_request (view h).request) (view (es ++ h)).taken
+  pub complete : next.answer ≡ Ok Answer.Done → Covers (view h).request.offset (end_of_request (view h).request) (view (es ++ h)).taken
   -- and then it is answered
-  pub completes : (d : Data) → es ≡ came d ∷ [] → takes (view h) d ≡ true → end_of_data d ≡ end_of_request (view h).request → next.answer ≡ Answer.Done
+  pub completes : (d : Data) → es ≡ came d ∷ [] → takes (view h) d ≡ true → end_of_data d ≡ end_of_request (view h).request → next.answer ≡ Ok Answer.Done
   pub asks : (x : Xfer) → es ≡ asked x ∷ [] → Asks k (view h) x
   -- an answer is taken only while one is due
   pub answers : Answered es → (view h).fate ≡ due
@@ -118,7 +118,7 @@ pub record WriteDemand (k : ℕ) (s : Write) (h es : List Entry) (next : Stepped
   -- retries used are the failures, at most R, and failed is answered exactly at failure R+1
   pub used : unfinished s.phase ≡ true → s.used ≡ (view h).failures
   pub bounded : s.used ≤ s.resends
-  pub fails : (next.answer ≡ Answer.Fail) ↔ (((view h).failures ≡ (view h).request.resends) × ((view (es ++ h)).failures ≡ (view h).request.resends + 1))
+  pub fails : (next.answer ≡ Ok Answer.Fail) ↔ (((view h).failures ≡ (view h).request.resends) × ((view (es ++ h)).failures ≡ (view h).request.resends + 1))
   -- at most as many XFER_RDYs go as the request has ranges, and R
   pub few : length (view h).asks ≤ ranges (view h).request.count (view h).request.burst + (view h).request.resends
   -- the write is unfinished exactly if the history says so, and every call that is taken answers the history's word

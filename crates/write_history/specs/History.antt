@@ -1,6 +1,7 @@
 -- The history of a write, and what it says of XFER_RDYs and data. It is read from the calls that were taken and from the frames that
 -- went and came alone: no state is read here, and of an answer only whether it is a refusal. Assumes nothing.
-use Rattle.std.specs.Prelude.{ℕ, ◌+◌, suc, Bool, true, false, cond, ◌&&◌, List, [], ◌∷◌, ◌⊎◌, ◌≡◌, eqb}
+use Rattle.refusals.specs.declared.Refusal.{Refusal}
+use Rattle.std.specs.Prelude.{ℕ, ◌+◌, suc, Bool, true, false, cond, ◌&&◌, List, [], ◌∷◌, ◌⊎◌, ◌≡◌, eqb, Result}
 use Rattle.write.specs.Calls.{is_refused}
 use Rattle.write.specs.declared.Answer.{Answer}
 
@@ -37,7 +38,7 @@ pub data Entry : Type 0 where
   ended : Entry
 
 -- what a call adds to the history, e if it is taken; a refused one adds nothing
-abbrev pub entries : Entry → Answer → List Entry
+abbrev pub entries : Entry → Result Answer Refusal → List Entry
 entries e a = cond (is_refused a) [] (e ∷ [])
 
 -- what became of the latest XFER_RDY: none went, its answer is due, it was ACKed, it failed, or its range is full

@@ -1,5 +1,6 @@
 -- What an ask leaves in its output and a take in its store: on a refusal all that was there, since the same causes decide both, and an ask that
 -- goes the frame that it was asked for. Assumes nothing.
+use Rattle.std.specs.Prelude.{Ok}
 use Prim.Native.Nat.{ℕ, ◌^◌, ◌<◌}
 use mathlib.Core.Bool.{true, false}
 use mathlib.Core.List.{List}
@@ -11,7 +12,6 @@ use Rattle.refusals.specs.Causes.{Cause, refuse}
 use Rattle.refusals.proofs.Causes.{Verdict, stopped, passes, verdict}
 use Rattle.ssp_frame.specs.Xfer.{xfer_left, read_xfer_rdy}
 use Rattle.ssp_frame.specs.Out.{out_of}
-use Rattle.ssp_frame.specs.declared.xfer_rdy.XferRead.TheVariants.{Frame}
 use Rattle.write.specs.Steps.{limit, refused, free, asked, got}
 use Rattle.write.specs.Calls as plainly
 use Rattle.write.specs.Calls.{is_refused}
@@ -58,10 +58,10 @@ module _ (s : State) (destination source tag : ℕ) where
 
   -- in the bytes of an ask that goes the XFER_RDY reader finds what the call was given, the state's next byte and the range's rest
   pub addressed_seen : (others : ℕ) (out : List ℕ) → s.tags < 2 ^ limit → tag < 65536 → is_refusal (face_of (ask others destination source tag out) s).answer ≡ false
-      → read_xfer_rdy (list.take 36 (bytes_of others destination source tag out s)) ≡ Frame (head_of limit others w destination source tag)
+      → read_xfer_rdy (list.take 36 (bytes_of others destination source tag out s)) ≡ Ok (head_of limit others w destination source tag)
   addressed_seen others out small typed on = by (asking.outcome limit others w destination source tag out (omega arith) small typed)
     where
-      by : asking.Outcome limit others w destination source tag out → read_xfer_rdy (list.take 36 (bytes_of others destination source tag out s)) ≡ Frame (head_of limit others w destination source tag)
+      by : asking.Outcome limit others w destination source tag out → read_xfer_rdy (list.take 36 (bytes_of others destination source tag out s)) ≡ Ok (head_of limit others w destination source tag)
       by (asking.kept r) =
           impossible
           (sym on ∙ refusal_told (step_of limit (ask others destination source tag out) w).answer ∙ ap (λ (st : Stepped). is_refused st.answer) r.step)

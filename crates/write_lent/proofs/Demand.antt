@@ -1,4 +1,5 @@
 -- What request c) asks of a write it asks of the numbers by which the write is shown. Assumes nothing.
+use Rattle.std.specs.Prelude.{Ok}
 use Prim.Native.Nat.{◌+◌, ◌≤◌}
 use mathlib.Core.Bool.{true, false}
 use mathlib.Core.List.{List, [], ◌++◌}
@@ -66,7 +67,7 @@ module _ (w : Write) (h es : List Entry) (st : Stepped) (d : WriteDemand limit w
         request = d.request;
         order = by_state (λ q. EndToEnd q.offset (view h).taken) d.order;
         next_is = by_state (λ q. w.next ≡ last_end q.offset (view h).taken) d.next_is;
-        complete = λ e. by_state (λ q. Covers q.offset (end_of_request q) (view (es ++ h)).taken) (d.complete (one_answer st.answer Answer.Done e));
+        complete = λ e. by_state (λ q. Covers q.offset (end_of_request q) (view (es ++ h)).taken) (d.complete (one_answer st.answer (Ok Answer.Done) e));
         completes = λ x is takes e. ap answer_number (d.completes x is takes (e ∙ sym (ap end_of_request d.request)));
         asks = d.asks;
         answers = d.answers;
@@ -77,8 +78,8 @@ module _ (w : Write) (h es : List Entry) (st : Stepped) (d : WriteDemand limit w
         used = λ u. d.used (is_unfinished w u);
         bounded = d.bounded;
         fails =
-            let said = by_state (λ q. (st.answer ≡ Answer.Fail) ↔ (((view h).failures ≡ q.resends) × ((view (es ++ h)).failures ≡ q.resends + 1))) d.fails in
-            (λ e. said.0 (one_answer st.answer Answer.Fail e), λ p. ap answer_number (said.1 p));
+            let said = by_state (λ q. (st.answer ≡ Ok Answer.Fail) ↔ (((view h).failures ≡ q.resends) × ((view (es ++ h)).failures ≡ q.resends + 1))) d.fails in
+            (λ e. said.0 (one_answer st.answer (Ok Answer.Fail) e), λ p. ap answer_number (said.1 p));
         few = by_state (λ q. length (view h).asks ≤ ranges q.count q.burst + q.resends) d.few;
         lives = (λ u. sym d.lives ∙ is_unfinished w u, λ e. is_working w.phase (d.lives ∙ e));
         word = λ e is. ap answer_number (d.word e is);

@@ -1,5 +1,6 @@
 -- What C is refused for: the write's own grounds, of the write that the numbers say; 3 tells apart what no calls gave back, and whatever is
 -- refused comes back as it was lent. Assumes nothing.
+use Rattle.std.specs.Prelude.{Err}
 use Prim.Native.Nat.{ℕ, ◌^◌, ◌<◌}
 use mathlib.Core.Bool.{Bool, true, false, cond, ◌&&◌}
 use mathlib.Core.List.{List}
@@ -19,7 +20,6 @@ use Rattle.write.specs.Rules.{keeps_rules}
 use Rattle.write.specs.Steps.{limit}
 use Rattle.write.specs.Calls as plainly
 use Rattle.write.specs.Grounds.{grounds_of}
-use Rattle.write.specs.declared.Answer.{Answer}
 use Rattle.write.proofs.Refusals.{refused_exactly}
 use Rattle.take.specs.Grounds.{ask_grounds, take_grounds}
 use Rattle.take.proofs.Refusals.{ask_refuses, take_refuses}
@@ -52,10 +52,10 @@ unformed_three c s off order =
 
 -- a call is refused with the number of j exactly if j is the first of its grounds that holds
 module _ (s : State) (small : s.tags < 2 ^ limit) where
-  by_number : (c : Call) (gs : List Ground) → ((j : Refusal) → ((machine.step_of limit c (state_of s)).answer ≡ Answer.Refused j) ↔ First gs j)
+  by_number : (c : Call) (gs : List Ground) → ((j : Refusal) → ((machine.step_of limit c (state_of s)).answer ≡ Err j) ↔ First gs j)
       → (j : Refusal) → ((face_of c s).answer ≡ number_of j) ↔ First gs j
   by_number c gs exactly j =
-      (λ e. (exactly j).0 (one_answer (machine.step_of limit c (state_of s)).answer (Answer.Refused j) e), λ f. ap answer_number ((exactly j).1 f))
+      (λ e. (exactly j).0 (one_answer (machine.step_of limit c (state_of s)).answer (Err j) e), λ f. ap answer_number ((exactly j).1 f))
 
   pub refused_seen : (c : plainly.Call) → plainly.Typed limit c → (j : Refusal) → ((face_of (plain c) s).answer ≡ number_of j) ↔ First (grounds_of limit c (state_of s)) j
   refused_seen c typed = by_number (plain c) (grounds_of limit c (state_of s)) (refused_exactly limit (state_of s) c (omega arith) small typed)

@@ -1,5 +1,6 @@
 -- C's calls leave the store that the write's own leave, so it holds what was taken, and at the end the image that the frames carried. Assumes
 -- nothing.
+use Rattle.std.specs.Prelude.{Ok}
 use Prim.Native.Nat.{ℕ, ◌+◌}
 use mathlib.Core.Bool.{Bool, false, cond}
 use mathlib.Core.List.{List, [], ◌∷◌, ◌++◌}
@@ -90,7 +91,7 @@ module _ (cs : List Call) (store : List ℕ) (typed : AllTyped limit cs) (lent :
       let q = sym (demand_seen cs c typed one).request ∙ ap (λ (g : List Entry). (view g).request) (past_is cs) in
       let its = images.image limit (omega arith) cs c store typed one (lent_shown cs unstarted store lent) (subst (Lent c) left here) image
       (transport (λ i. FromImage image (view (added_is cs c i ++ past_is cs i)).taken) from)
-      (one_answer (machine.step_of limit c w).answer Answer.Done (ap (λ (r : Step). r.answer) (sym (answer_is cs c)) ∙ done)) in
+      (one_answer (machine.step_of limit c w).answer (Ok Answer.Done) (ap (λ (r : Step). r.answer) (sym (answer_is cs c)) ∙ done)) in
       transport⁻¹ (λ i. take (q i).count (laid i) ≡ take (q i).count (drop (q i).offset image)) its
 
 -- data that the history doesn't take leaves the store

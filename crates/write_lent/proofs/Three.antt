@@ -1,5 +1,8 @@
 -- Refusal 3 among a call's causes: what the call is given comes before it, and nothing else answers 3, so it is answered exactly where that is in
 -- order and the test of the state, or of START's own numbers, fails. Assumes nothing.
+use Rattle.ssp_frame.specs.declared.data_out.OutHead.{OutHead}
+use Rattle.ssp_frame.specs.declared.Frame.{Frame}
+use Rattle.std.specs.Prelude.{Err, Ok, Result}
 use Prim.Native.Nat.{ℕ, ◌^◌}
 use mathlib.Core.Bool.{Bool, true, false, not, cond, ◌&&◌, ◌||◌}
 use mathlib.Core.List.{List, [], ◌∷◌, ◌++◌}
@@ -17,8 +20,6 @@ use Rattle.refusals.specs.Refusals.{number_of}
 use Rattle.refusals.specs.declared.Refusal.{Refusal}
 use Rattle.refusals.proofs.Causes.{NoneGiven, none_append, Verdict, stopped, passes, verdict, through, unrefused}
 use Rattle.ssp_frame.specs.Out.{read_causes, out_of, read_data_out}
-use Rattle.ssp_frame.specs.declared.data_out.OutRead.{OutRead}
-use Rattle.ssp_frame.specs.declared.data_out.OutRead.TheVariants.{Frame, Refused}
 use Rattle.write.specs.Rules.{in_range, keeps_rules}
 use Rattle.write.specs.Steps.{limit, refused, unfinished, asking, waiting, early, free, asked, sized, fits}
 use Rattle.write.specs.Steps as steps
@@ -171,16 +172,16 @@ parts (take destination source tag frame store) w =
 
 -- ---- in words
 
-abbrev is_read : OutRead → Bool
-is_read (Frame f) = true
-is_read (Refused k) = false
+abbrev is_read : Result (Frame OutHead) Refusal → Bool
+is_read (Ok f) = true
+is_read (Err k) = false
 
-frame_read : (frame : List ℕ) → NoneGiven (read_causes frame) ↔ (read_data_out frame ≡ Frame (out_of frame))
+frame_read : (frame : List ℕ) → NoneGiven (read_causes frame) ↔ (read_data_out frame ≡ Ok (out_of frame))
 unfolding read_data_out
-frame_read frame = (λ off. sym (unrefused Refused (Frame (out_of frame)) (read_causes frame) off), λ e. by e (verdict (read_causes frame)))
+frame_read frame = (λ off. sym (unrefused Err (Ok (out_of frame)) (read_causes frame) off), λ e. by e (verdict (read_causes frame)))
   where
-    by : read_data_out frame ≡ Frame (out_of frame) → Verdict (read_causes frame) → NoneGiven (read_causes frame)
-    by e (stopped k h) = absurd (never (ap is_read (sym (h OutRead Refused (Frame (out_of frame))) ∙ e)))
+    by : read_data_out frame ≡ Ok (out_of frame) → Verdict (read_causes frame) → NoneGiven (read_causes frame)
+    by e (stopped k h) = absurd (never (ap is_read (sym (h (Result (Frame OutHead) Refusal) Err (Ok (out_of frame))) ∙ e)))
     by e (passes off h) = off
 
 addressed_says : (destination source : ℕ) → Says (addressed destination source) (Addressed destination source)

@@ -1,4 +1,5 @@
 -- Each phase's number is its place in the list; an answer that is no refusal is found by its number, which no refusal has. Assumes nothing.
+use Rattle.std.specs.Prelude.{Err, Ok, Result}
 use Prim.Native.Nat.{ℕ, ◌<◌}
 use mathlib.Core.Bool.{cond}
 use mathlib.Core.List.{List, [], ◌∷◌}
@@ -16,7 +17,7 @@ use Rattle.refusals.proofs.Numbers.{one_number, range}
 use Rattle.write.specs.Calls.{is_refused}
 use Rattle.write.specs.declared.Phase.{Phase}
 use Rattle.write.specs.declared.Answer.{Answer}
-use Rattle.write.specs.declared.Answer.TheVariants.{Ok, Sent, Retry, Done, Fail, End, Late, More, Refused}
+use Rattle.write.specs.declared.Answer.TheVariants.{Sent, Retry, Done, Fail, End, Late, More}
 use Rattle.write_lent.specs.Numbers.{phase_number, phases, phase_of, answer_number}
 use Rattle.write_lent.specs.Lent.{is_refusal}
 
@@ -42,56 +43,56 @@ pub one_phase : (p q : Phase) → phase_number p ≡ phase_number q → p ≡ q
 one_phase p q e = sym (phase_back p).1 ∙ ap phase_of e ∙ (phase_back q).1
 
 -- the one of these that has the number n
-abbrev numbered_by : List Answer → ℕ → Answer
-numbered_by [] n = Ok
+abbrev numbered_by : List (Result Answer Refusal) → ℕ → Result Answer Refusal
+numbered_by [] n = Ok Answer.Ok
 numbered_by (a ∷ rest) n = cond (eqb (answer_number a) n) a (numbered_by rest n)
 
 -- whatever is no refusal
-abbrev happened : ℕ → Answer
-happened n = numbered_by (Ok ∷ Sent ∷ Retry ∷ Done ∷ Fail ∷ End ∷ Late ∷ More ∷ []) n
+abbrev happened : ℕ → Result Answer Refusal
+happened n = numbered_by ((Ok Answer.Ok) ∷ (Ok Sent) ∷ (Ok Retry) ∷ (Ok Done) ∷ (Ok Fail) ∷ (Ok End) ∷ (Ok Late) ∷ (Ok More) ∷ []) n
 
 -- an answer is a refusal, or is found at its number, which no refusal has
-pub data Told : Answer → Type 0 where
-  refusal : (k : Refusal) → Told (Refused k)
-  none : (a : Answer) → ((k : Refusal) → answer_number a ≡ number_of k → ⊥) → happened (answer_number a) ≡ a → Told a
+pub data Told : Result Answer Refusal → Type 0 where
+  refusal : (k : Refusal) → Told (Err k)
+  none : (a : Result Answer Refusal) → ((k : Refusal) → answer_number a ≡ number_of k → ⊥) → happened (answer_number a) ≡ a → Told a
 
 no_refusal : {n : ℕ} → 10 < n → (k : Refusal) → n ≡ number_of k → ⊥
 no_refusal l k e = let r = range k in omega (arith, r, l, e)
 
-pub answer_told : (a : Answer) → Told a
-answer_told Ok = none Ok (λ k e. let r = range k in omega (arith, r, e)) refl
-answer_told Sent = none Sent (no_refusal (omega arith)) refl
-answer_told Retry = none Retry (no_refusal (omega arith)) refl
-answer_told Done = none Done (no_refusal (omega arith)) refl
-answer_told Fail = none Fail (no_refusal (omega arith)) refl
-answer_told End = none End (no_refusal (omega arith)) refl
-answer_told Late = none Late (no_refusal (omega arith)) refl
-answer_told More = none More (no_refusal (omega arith)) refl
-answer_told (Refused k) = refusal k
+pub answer_told : (a : Result Answer Refusal) → Told a
+answer_told (Ok Answer.Ok) = none (Ok Answer.Ok) (λ k e. let r = range k in omega (arith, r, e)) refl
+answer_told (Ok Sent) = none (Ok Sent) (no_refusal (omega arith)) refl
+answer_told (Ok Retry) = none (Ok Retry) (no_refusal (omega arith)) refl
+answer_told (Ok Done) = none (Ok Done) (no_refusal (omega arith)) refl
+answer_told (Ok Fail) = none (Ok Fail) (no_refusal (omega arith)) refl
+answer_told (Ok End) = none (Ok End) (no_refusal (omega arith)) refl
+answer_told (Ok Late) = none (Ok Late) (no_refusal (omega arith)) refl
+answer_told (Ok More) = none (Ok More) (no_refusal (omega arith)) refl
+answer_told (Err k) = refusal k
 
 -- no two answers share a number
-pub one_answer : (a b : Answer) → answer_number a ≡ answer_number b → a ≡ b
+pub one_answer : (a b : Result Answer Refusal) → answer_number a ≡ answer_number b → a ≡ b
 one_answer a b e = both (answer_told a) (answer_told b) e
   where
-    both : {a b : Answer} → Told a → Told b → answer_number a ≡ answer_number b → a ≡ b
-    both (refusal j) (refusal k) e = ap Refused (one_number j k e)
+    both : {a b : Result Answer Refusal} → Told a → Told b → answer_number a ≡ answer_number b → a ≡ b
+    both (refusal j) (refusal k) e = ap Err (one_number j k e)
     both (refusal j) (none b off q) e = absurd (off j (sym e))
     both (none a off p) (refusal k) e = absurd (off k e)
     both (none a off p) (none b on q) e = sym p ∙ ap happened e ∙ q
 
 -- a refusal is told by its number
-pub refused_told : (a : Answer) (k : Refusal) → answer_number a ≡ number_of k → a ≡ Refused k
-refused_told a k e = one_answer a (Refused k) e
+pub refused_told : (a : Result Answer Refusal) (k : Refusal) → answer_number a ≡ number_of k → a ≡ Err k
+refused_told a k e = one_answer a (Err k) e
 
-pub refusal_told : (a : Answer) → is_refusal (answer_number a) ≡ is_refused a
-refusal_told Ok = refl
-refusal_told Sent = refl
-refusal_told Retry = refl
-refusal_told Done = refl
-refusal_told Fail = refl
-refusal_told End = refl
-refusal_told Late = refl
-refusal_told More = refl
-refusal_told (Refused k) =
+pub refusal_told : (a : Result Answer Refusal) → is_refusal (answer_number a) ≡ is_refused a
+refusal_told (Ok Answer.Ok) = refl
+refusal_told (Ok Sent) = refl
+refusal_told (Ok Retry) = refl
+refusal_told (Ok Done) = refl
+refusal_told (Ok Fail) = refl
+refusal_told (Ok End) = refl
+refusal_told (Ok Late) = refl
+refusal_told (Ok More) = refl
+refusal_told (Err k) =
     let r = range k in
     and_true (lt-ltb 0 (number_of k) (omega (arith, r))) (lt-ltb (number_of k) 11 (omega (arith, r)))

@@ -1,7 +1,6 @@
 -- What refusal 3 is told for, and what is looked at before it. Assumes nothing.
-use Rattle.std.specs.Prelude.{◌≤◌, ◌≡◌, length}
+use Rattle.std.specs.Prelude.{◌≤◌, ◌≡◌, length, Ok}
 use Rattle.ssp_frame.specs.Out.{out_of, read_data_out}
-use Rattle.ssp_frame.specs.declared.data_out.OutRead.TheVariants.{Frame}
 use Rattle.write.specs.Steps.{limit}
 use Rattle.write.specs.Calls as plainly
 use Rattle.write.specs.Calls.{start, xfer, ack, nak, timeout, lost, got, nexus, cancel}
@@ -40,4 +39,4 @@ Sized cancel = Unit {0}
 abbrev pub InOrder : Call → Type 0
 InOrder (plain c) = Sized c
 InOrder (ask others destination source tag out) = (36 ≤ length out) × Addressed destination source
-InOrder (take destination source tag frame store) = (read_data_out frame ≡ Frame (out_of frame)) × Addressed destination source
+InOrder (take destination source tag frame store) = (read_data_out frame ≡ Ok (out_of frame)) × Addressed destination source

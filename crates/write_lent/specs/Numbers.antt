@@ -1,6 +1,7 @@
 -- The numbers of a write's phases and of what its calls answer. Past the last phase's number the last stands in, and nobody asks.
 -- Assumes nothing.
-use Rattle.std.specs.Prelude.{ℕ, List, [], ◌∷◌, get_or}
+use Rattle.refusals.specs.declared.Refusal.{Refusal}
+use Rattle.std.specs.Prelude.{ℕ, List, [], ◌∷◌, get_or, Err, Ok, Result}
 use Rattle.refusals.specs.Refusals.{number_of}
 use Rattle.write.specs.declared.Answer.{Answer}
 use Rattle.write.specs.declared.Phase.{Phase}
@@ -21,13 +22,13 @@ abbrev pub phase_of : ℕ → Phase
 phase_of n = get_or phases n Phase.End
 
 -- 17, DRAIN, is a read's alone
-abbrev pub answer_number : Answer → ℕ
-answer_number Answer.Ok = 0
-answer_number Answer.Sent = 16
-answer_number Answer.Retry = 18
-answer_number Answer.Done = 19
-answer_number Answer.Fail = 20
-answer_number Answer.End = 21
-answer_number Answer.Late = 22
-answer_number Answer.More = 23
-answer_number (Answer.Refused k) = number_of k
+abbrev pub answer_number : Result Answer Refusal → ℕ
+answer_number (Ok Answer.Ok) = 0
+answer_number (Ok Answer.Sent) = 16
+answer_number (Ok Answer.Retry) = 18
+answer_number (Ok Answer.Done) = 19
+answer_number (Ok Answer.Fail) = 20
+answer_number (Ok Answer.End) = 21
+answer_number (Ok Answer.Late) = 22
+answer_number (Ok Answer.More) = 23
+answer_number (Err k) = number_of k

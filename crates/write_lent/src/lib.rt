@@ -6,6 +6,9 @@ ghost use Rattle.write.specs.Calls.{start, xfer, ack, nak, timeout, lost, got, n
 ghost use Rattle.take_history.specs.Calls.{plain};
 ghost use Rattle.write_lent.specs.Face.{face_of, Asked, Taken};
 
+use take::Command;
+use write::Write;
+
 mod lent;
 pub mod numbers;
 
@@ -44,74 +47,70 @@ impl State {
     pub fn start(self, offset: u32, count: u32, burst: u32, resends: u32) -> Step
         ensures { result ≡ face_of (plain (start offset count burst resends)) self }
     {
-        let w = lent::state_of(self);
-        lent::seen(self, w.start(offset, count, burst, resends))
+        self.seen(Write::from(self).start(offset, count, burst, resends))
     }
 
     // XFER, its frame written by the caller itself; others are the tags in use by the port's other writes.
     pub fn xfer(self, others: u64) -> Step
         ensures { result ≡ face_of (plain (xfer others)) self }
     {
-        let w = lent::state_of(self);
-        lent::seen(self, w.xfer(others))
+        self.seen(Write::from(self).xfer(others))
     }
 
     pub fn ack(self) -> Step
         ensures { result ≡ face_of (plain ack) self }
     {
-        let w = lent::state_of(self);
-        lent::seen(self, w.ack())
+        self.seen(Write::from(self).ack())
     }
 
     pub fn nak(self) -> Step
         ensures { result ≡ face_of (plain nak) self }
     {
-        let w = lent::state_of(self);
-        lent::seen(self, w.nak())
+        self.seen(Write::from(self).nak())
     }
 
     pub fn timeout(self) -> Step
         ensures { result ≡ face_of (plain timeout) self }
     {
-        let w = lent::state_of(self);
-        lent::seen(self, w.timeout())
+        self.seen(Write::from(self).timeout())
     }
 
     pub fn lost(self) -> Step
         ensures { result ≡ face_of (plain lost) self }
     {
-        let w = lent::state_of(self);
-        lent::seen(self, w.lost())
+        self.seen(Write::from(self).lost())
     }
 
     // DATA, its bytes taken by the caller itself: of this length at this offset, under this transfer tag.
     pub fn got(self, transfer: u16, offset: u32, length: u32) -> Step
         ensures { result ≡ face_of (plain (got transfer offset length)) self }
     {
-        let w = lent::state_of(self);
-        lent::seen(self, w.got(transfer, offset, length))
+        self.seen(Write::from(self).got(transfer, offset, length))
     }
 
     pub fn nexus(self) -> Step
         ensures { result ≡ face_of (plain nexus) self }
     {
-        let w = lent::state_of(self);
-        lent::seen(self, w.nexus())
+        self.seen(Write::from(self).nexus())
     }
 
     pub fn cancel(self) -> Step
         ensures { result ≡ face_of (plain cancel) self }
     {
-        let w = lent::state_of(self);
-        lent::seen(self, w.cancel())
+        self.seen(Write::from(self).cancel())
     }
 
+    // Addresses and tag are C's own parameters, here and in `take`; they become a Command.
     // XFER, its frame to the front of out; the bytes past it stay, and on a refusal all of them.
     pub fn ask(self, others: u64, destination: u32, source: u32, tag: u16, out: &mut [u8]) -> Step
         ensures { Asked self others destination source tag out.old result out.new }
     {
-        let w = lent::state_of(self);
-        lent::seen(self, take::ask(w, others, destination, source, tag, out))
+        let command = Command {
+            destination,
+            source,
+            tag,
+        };
+        self.seen(take::ask(Write::from(self), others, command, out))
     }
 
     // DATA, its bytes from frame into store at its offset; every other byte stays, and on a refusal or with late data all of them.
@@ -125,7 +124,11 @@ impl State {
     ) -> Step
         ensures { Taken self destination source tag frame.now store.old result store.new }
     {
-        let w = lent::state_of(self);
-        lent::seen(self, take::take(w, destination, source, tag, frame, store))
+        let command = Command {
+            destination,
+            source,
+            tag,
+        };
+        self.seen(take::take(Write::from(self), command, frame, store))
     }
 }

@@ -1,22 +1,15 @@
-// The numbers of a write's phases and of what its calls answer.
+// The numbers of a write's phases and of what its calls answer. They are functions and no impl of From, which this crate can't write for another's enum.
 ghost use Rattle.std.specs.Prelude.{◌≡◌};
 ghost use Rattle.write_lent.specs.Numbers.{phase_number, phase_of, answer_number};
 
+use refusals::Refusal;
 use write::{Answer, Phase};
 
-// 0 before START to 6 for ended.
+// 0 before START to 6 for ended, in the order of the enum.
 pub fn phase_number(p: Phase) -> u8
     ensures { result ≡ phase_number p }
 {
-    match p {
-        Phase::New => 0,
-        Phase::Ask => 1,
-        Phase::Wait => 2,
-        Phase::Take => 3,
-        Phase::Done => 4,
-        Phase::Fail => 5,
-        Phase::End => 6,
-    }
+    p as u8
 }
 
 // From the last on it is the last.
@@ -35,18 +28,18 @@ pub fn phase_of(n: u8) -> Phase
 }
 
 // 0, a refusal's own number, or from 16 on what happened.
-pub fn answer_number(a: Answer) -> u8
+pub fn answer_number(a: Result<Answer, Refusal>) -> u8
     ensures { result ≡ answer_number a }
 {
     match a {
-        Answer::Ok => 0,
-        Answer::Sent => 16,
-        Answer::Retry => 18,
-        Answer::Done => 19,
-        Answer::Fail => 20,
-        Answer::End => 21,
-        Answer::Late => 22,
-        Answer::More => 23,
-        Answer::Refused(k) => refusals::number(k),
+        Ok(Answer::Ok) => 0,
+        Ok(Answer::Sent) => 16,
+        Ok(Answer::Retry) => 18,
+        Ok(Answer::Done) => 19,
+        Ok(Answer::Fail) => 20,
+        Ok(Answer::End) => 21,
+        Ok(Answer::Late) => 22,
+        Ok(Answer::More) => 23,
+        Err(k) => u8::from(k),
     }
 }

@@ -1,18 +1,17 @@
 -- Document 01, 'XL': the rules of a state. Assumes nothing.
-use Rattle.std.specs.Prelude.{Bool, true, false, not, ◌&&◌, ◌||◌}
+use Rattle.open_frame.specs.declared.OpenFrame.{OpenFrame}
+use Rattle.std.specs.Prelude.{Bool, true, false, not, ◌&&◌, ◌||◌, is_some, None, Option, Some}
 use Rattle.open_frame.specs.Open.{head_listed}
 use Rattle.xl_parts.specs.declared.Phase.{Phase}
-use Rattle.xl_parts.specs.declared.Held.{Held}
 use Rattle.xl_parts.specs.declared.State.{State}
 
 -- a frame, if there is one, has fields as in OPEN
-abbrev pub fielded : Held → Bool
-fielded Held.Nothing = true
-fielded (Held.Frame f) = head_listed f.head
+abbrev pub fielded : Option OpenFrame → Bool
+fielded None = true
+fielded (Some f) = head_listed f.head
 
-abbrev pub is_frame : Held → Bool
-is_frame Held.Nothing = false
-is_frame (Held.Frame f) = true
+abbrev pub is_frame : Option OpenFrame → Bool
+is_frame h = is_some h
 
 -- XL1 to XL6
 abbrev pub works : Phase → Bool

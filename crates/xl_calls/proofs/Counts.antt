@@ -1,5 +1,7 @@
 -- The count is the number of events that were not listed for the state that they met, up to the largest: a row changes no count, a refusal
 -- nothing, and an unexpected event adds one. Assumes nothing.
+use Rattle.refusals.specs.declared.Refusal.{Refusal}
+use Rattle.std.specs.Prelude.{Err, Ok, Result}
 use Prim.Native.Nat.{ℕ, ◌+◌, ◌≤◌, min}
 use mathlib.Core.Bool.{Bool, cond}
 use mathlib.Core.List.{List, [], ◌∷◌}
@@ -8,7 +10,6 @@ use native.Mathlib.Omega.{arith}
 use Rattle.refusals.proofs.Causes.{NoneGiven, by_causes}
 use Rattle.open_frame.specs.Open.{read_open}
 use Rattle.open_frame.specs.declared.OpenFrame.{OpenFrame}
-use Rattle.open_frame.specs.declared.OpenRead.{OpenRead}
 use Rattle.xl_parts.specs.declared.Primitive.{Primitive}
 use Rattle.xl_parts.specs.declared.Event.{Event}
 use Rattle.xl_parts.specs.declared.State.{State}
@@ -43,9 +44,9 @@ module _ (s : State) (small : s.count ≤ 4294967295) where
   call_counts (event e f) = step_counts f e
   call_counts (bytes b) = by (read_open b)
     where
-      by : (r : OpenRead) → (opened r s).state.count ≡ min (s.count + surprise_read r s) 4294967295
-      by (OpenRead.Refused k) = same
-      by (OpenRead.Frame f) = step_counts f (Event.Line Primitive.Open)
+      by : (r : Result OpenFrame Refusal) → (opened r s).state.count ≡ min (s.count + surprise_read r s) 4294967295
+      by (Err k) = same
+      by (Ok f) = step_counts f (Event.Line Primitive.Open)
 
 joins : (a b c m : ℕ) → c ≡ min (a + b) m → (r : ℕ) → min (c + r) m ≡ min (a + (b + r)) m
 joins a b c m e r = omega (arith, e)

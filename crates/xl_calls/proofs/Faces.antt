@@ -1,5 +1,6 @@
 -- Of a lent link whose numbers say a state each call shows C the machine's own step, so over any calls C sees the machine's run; and
 -- a state that keeps the rules is shown as one. Assumes nothing.
+use Rattle.std.specs.Prelude.{Err, Ok, Result, None, Option, Some}
 use Prim.Native.Nat.{ℕ}
 use mathlib.Core.Bool.{Bool, true, false, not, cond, ◌&&◌}
 use mathlib.Core.List.{List, [], ◌∷◌, ◌++◌}
@@ -16,7 +17,6 @@ use Rattle.refusals.proofs.Numbers.{not_zero}
 use Rattle.open_frame.specs.Open as opens
 use Rattle.open_frame.specs.Open.{head_listed, head_of, typed, read_causes, read_open}
 use Rattle.open_frame.specs.declared.OpenFrame.{OpenFrame}
-use Rattle.open_frame.specs.declared.OpenRead.{OpenRead}
 use Rattle.open_lent.specs.Lent.{frame_of}
 use Rattle.open_lent.specs.declared.Open.{Open}
 use Rattle.xl_parts.specs.declared.Primitive.{Primitive}
@@ -25,7 +25,6 @@ use Rattle.xl_parts.specs.declared.State.{State}
 use Rattle.xl_parts.specs.declared.Stepped.{Stepped}
 use Rattle.xl_parts.specs.Parts.{done, ready}
 use Rattle.xl_numbers.specs.declared.codes.Code.{Code}
-use Rattle.xl_numbers.specs.declared.codes.EventRead.{EventRead}
 use Rattle.xl_numbers.specs.Codes.{event_of}
 use Rattle.xl_rows.specs.Table.{takes}
 use Rattle.xl.specs.Rules.{keeps_rules}
@@ -85,26 +84,26 @@ same_call : (c m : Call) → c ∷ [] ≡ m ∷ [] → c ≡ m
 same_call c m e = cc
 
 module _ (l : Link) (ok : formed l ≡ true) where
-  pub event_told : (c : Code) (o : Open) (e : Event) → event_of c ≡ EventRead.Named e → link_event l c o ≡ told l (call_of (event e (frame_of o)) (state_of l))
+  pub event_told : (c : Code) (o : Open) (e : Event) → event_of c ≡ Some e → link_event l c o ≡ told l (call_of (event e (frame_of o)) (state_of l))
   unfolding link_event call_of
-  event_told c o e q = ap (λ (r : EventRead). heard l r o) q ∙ sym (met_formed l e (frame_of o) ok)
+  event_told c o e q = ap (λ (r : Option Event). heard l r o) q ∙ sym (met_formed l e (frame_of o) ok)
 
   pub receive_told : (b : List ℕ) → link_receive l b ≡ told l (call_of (bytes b) (state_of l))
   unfolding link_receive call_of receive_of
   receive_told b = by (read_open b)
     where
-      by : (r : OpenRead) → opened l r ≡ told l (steps.opened r (state_of l))
-      by (OpenRead.Refused k) = refl
-      by (OpenRead.Frame f) = sym (met_formed l (Event.Line Primitive.Open) f ok)
+      by : (r : Result OpenFrame Refusal) → opened l r ≡ told l (steps.opened r (state_of l))
+      by (Err k) = refl
+      by (Ok f) = sym (met_formed l (Event.Line Primitive.Open) f ok)
 
   -- whatever holds of a refusal and of what C is told of the machine holds of what C sees
   by_face : (P : List Call → Step → Type 0) → ((k : Refusal) → P [] (refused l k)) → ((c : Call) → P (c ∷ []) (told l (call_of c (state_of l)))) → (c : FaceCall) → P (makes c) (face_of c l)
   unfolding link_event
   by_face P stays goes (numbers c o) = by (event_of c) refl
     where
-      by : (r : EventRead) → event_of c ≡ r → P (named (event_of c) o) (link_event l c o)
-      by (EventRead.Named e) q = subst⁻¹ (λ (x : List Call). P x (link_event l c o)) (ap (λ (r : EventRead). named r o) q) (subst⁻¹ (P (event e (frame_of o) ∷ [])) (event_told c o e q) (goes (event e (frame_of o))))
-      by EventRead.Unnamed q = subst⁻¹ (λ (r : EventRead). P (named r o) (heard l r o)) q (stays Refusal.Unlisted)
+      by : (r : Option Event) → event_of c ≡ r → P (named (event_of c) o) (link_event l c o)
+      by (Some e) q = subst⁻¹ (λ (x : List Call). P x (link_event l c o)) (ap (λ (r : Option Event). named r o) q) (subst⁻¹ (P (event e (frame_of o) ∷ [])) (event_told c o e q) (goes (event e (frame_of o))))
+      by None q = subst⁻¹ (λ (r : Option Event). P (named r o) (heard l r o)) q (stays Refusal.Unlisted)
   by_face P stays goes (frame b) = subst⁻¹ (P (bytes b ∷ [])) (receive_told b) (goes (bytes b))
 
   -- the link that C gets says the state that the machine's calls leave
@@ -124,9 +123,9 @@ unfolding link_event
 none_made l (frame b) e = absurd (no_call (bytes b) (sym e))
 none_made l (numbers c o) e = by (event_of c) e
   where
-    by : (r : EventRead) → named r o ≡ [] → heard l r o ≡ refused l Refusal.Unlisted
-    by (EventRead.Named e) h = absurd (no_call (event e (frame_of o)) (sym h))
-    by EventRead.Unnamed h = refl
+    by : (r : Option Event) → named r o ≡ [] → heard l r o ≡ refused l Refusal.Unlisted
+    by (Some e) h = absurd (no_call (event e (frame_of o)) (sym h))
+    by None h = refl
 
 pub keeps_call : (l : Link) → keeps_lent l ≡ true → (c : FaceCall) → keeps_lent (face_of c l).state ≡ true
 keeps_call l ok = by_face l (lent_formed l ok) (λ (cs : List Call) (r : Step). keeps_lent r.state ≡ true) (λ k. ok) (told_keeps l ok)
@@ -167,11 +166,11 @@ behind cs c m one =
 -- ---- what is refused
 
 -- the answer of a call as its causes give it
-event_answers : (l : Link) (c : Code) (o : Open) (e : Event) → event_of c ≡ EventRead.Named e → (link_event l c o).answer ≡ refuse number_of (met_causes l e (frame_of o)) 0
+event_answers : (l : Link) (c : Code) (o : Open) (e : Event) → event_of c ≡ Some e → (link_event l c o).answer ≡ refuse number_of (met_causes l e (frame_of o)) 0
 unfolding link_event
 event_answers l c o e q =
     let f = frame_of o in
-    ap (λ (r : EventRead). (heard l r o).answer) q
+    ap (λ (r : Option Event). (heard l r o).answer) q
     ∙ ap (λ (r : Step). r.answer) (met_is l e f)
     ∙ through (λ (r : Step). r.answer) (refused l) (met_causes l e f) (told l (done (takes f e (state_of l))))
 
@@ -180,9 +179,9 @@ receive_answers l b =
     ap (λ (r : Step). r.answer) (receive_is l b)
     ∙ through (λ (r : Step). r.answer) (refused l) (receive_causes l b) (told l (done (takes (opens.frame_of b) (Event.Line Primitive.Open) (state_of l))))
 
-unnamed_two : (l : Link) (c : Code) (o : Open) → event_of c ≡ EventRead.Unnamed → (link_event l c o).answer ≡ 2
+unnamed_two : (l : Link) (c : Code) (o : Open) → event_of c ≡ None → (link_event l c o).answer ≡ 2
 unfolding link_event
-unnamed_two l c o q = ap (λ (r : EventRead). (heard l r o).answer) q
+unnamed_two l c o q = ap (λ (r : Option Event). (heard l r o).answer) q
 
 -- a call whose last cause is that the rules are broken is taken only where they are kept, and refused with 3 only where they are not
 zero_kept : (cs : List Cause) (k : Bool) → refuse number_of (cs ++ ((Refusal.Rules when not k) ∷ [])) 0 ≡ 0 → k ≡ true
@@ -205,9 +204,9 @@ by_answer : (l : Link) (n : ℕ) (P : Type 0) → (◌≡◌ {A = ℕ} 2 n → P
 by_answer l n P unnamed met-with received (frame b) h = received b (sym (receive_answers l b) ∙ h)
 by_answer l n P unnamed met-with received (numbers c o) h = by (event_of c) refl
   where
-    by : (r : EventRead) → event_of c ≡ r → P
-    by (EventRead.Named e) q = met-with e (frame_of o) (sym (event_answers l c o e q) ∙ h)
-    by EventRead.Unnamed q = unnamed (sym (unnamed_two l c o q) ∙ h)
+    by : (r : Option Event) → event_of c ≡ r → P
+    by (Some e) q = met-with e (frame_of o) (sym (event_answers l c o e q) ∙ h)
+    by None q = unnamed (sym (unnamed_two l c o q) ∙ h)
 
 pub taken_kept : (l : Link) (c : FaceCall) → (face_of c l).answer ≡ 0 → keeps_lent l ≡ true
 taken_kept l =

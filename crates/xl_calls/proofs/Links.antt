@@ -1,5 +1,6 @@
 -- What the walk over the table shows of each row, put over any calls: a refused call changes nothing, an unexpected one only the
 -- count, and every other is a row. Assumes nothing.
+use Rattle.std.specs.Prelude.{Err, Ok, Result, None, Option, Some}
 use mathlib.Core.Bool.{Bool, true, false, not, cond, ◌&&◌}
 use mathlib.Core.List.{[], ◌∷◌}
 use mathlib.Core.Path.{◌≡◌, refl, subst, subst⁻¹}
@@ -9,10 +10,8 @@ use Rattle.refusals.proofs.Causes.{NoneGiven, by_causes}
 use Rattle.refusals.specs.declared.Refusal.{Refusal}
 use Rattle.open_frame.specs.Open.{head_listed, read_open}
 use Rattle.open_frame.specs.declared.OpenFrame.{OpenFrame}
-use Rattle.open_frame.specs.declared.OpenRead.{OpenRead}
 use Rattle.xl_parts.specs.declared.Primitive.{Primitive}
 use Rattle.xl_parts.specs.declared.Event.{Event}
-use Rattle.xl_parts.specs.declared.Held.{Held}
 use Rattle.xl_parts.specs.declared.State.{State}
 use Rattle.xl_parts.specs.declared.Stepped.{Stepped}
 use Rattle.xl_parts.specs.Parts.{done}
@@ -40,13 +39,13 @@ took Q f e s good given = by (is_listed f e s) refl
 abbrev pub Fielded : OpenFrame → Type 0
 Fielded g = head_listed g.head ≡ true
 
-each_of : (h : Held) → fielded h ≡ true → Each Fielded h
-each_of Held.Nothing e = tt
-each_of (Held.Frame f) e = e
+each_of : (h : Option OpenFrame) → fielded h ≡ true → Each Fielded h
+each_of None e = tt
+each_of (Some f) e = e
 
-of_each : (h : Held) → Each Fielded h → fielded h ≡ true
-of_each Held.Nothing e = refl
-of_each (Held.Frame f) e = e
+of_each : (h : Option OpenFrame) → Each Fielded h → fielded h ≡ true
+of_each None e = refl
+of_each (Some f) e = e
 
 pub good_of : (s : State) → keeps_rules s ≡ true → Good Fielded s
 unfolding keeps_rules
@@ -83,6 +82,6 @@ module _ (P : Call → Stepped → Type 0) (s : State) (stays : (c : Call) (k : 
   by_call (event e f) = stepped (event e f) f e (frame_brought e f)
   by_call (bytes b) = by (read_open b) refl
     where
-      by : (r : OpenRead) → read_open b ≡ r → P (bytes b) (opened (read_open b) s)
-      by (OpenRead.Refused k) q = subst⁻¹ (λ (r : OpenRead). P (bytes b) (opened r s)) q (stays (bytes b) k)
-      by (OpenRead.Frame f) q = subst⁻¹ (λ (r : OpenRead). P (bytes b) (opened r s)) q (stepped (bytes b) f (Event.Line Primitive.Open) (λ fr. subst⁻¹ (λ (r : OpenRead). In f (brought_read r)) q here))
+      by : (r : Result OpenFrame Refusal) → read_open b ≡ r → P (bytes b) (opened (read_open b) s)
+      by (Err k) q = subst⁻¹ (λ (r : Result OpenFrame Refusal). P (bytes b) (opened r s)) q (stays (bytes b) k)
+      by (Ok f) q = subst⁻¹ (λ (r : Result OpenFrame Refusal). P (bytes b) (opened r s)) q (stepped (bytes b) f (Event.Line Primitive.Open) (λ fr. subst⁻¹ (λ (r : Result OpenFrame Refusal). In f (brought_read r)) q here))

@@ -1,4 +1,5 @@
 -- Which steps release a path: every row is looked at, with the state that it leaves. Assumes nothing.
+use Rattle.std.specs.Prelude.{None, Option, Some}
 use Prim.Native.Nat.{ℕ}
 use mathlib.Core.Bool.{not, ◌&&◌}
 use mathlib.Core.Path.{◌≡◌, refl}
@@ -8,8 +9,6 @@ use Rattle.xl_parts.specs.declared.Phase.{Phase}
 use Rattle.xl_parts.specs.declared.Phase.TheVariants.{Xl0, Xl1, Xl2, Xl3, Xl4, Xl5, Xl6, Xl7, Xl8, Xl9, Xl10}
 use Rattle.xl_parts.specs.declared.Event.{Event}
 use Rattle.xl_parts.specs.declared.Event.TheVariants.{Line, Router, Manager, Own, Break, Disable}
-use Rattle.xl_parts.specs.declared.Held.{Held}
-use Rattle.xl_parts.specs.declared.Held.TheVariants.{Nothing, Frame}
 use Rattle.xl_parts.specs.declared.Memory.{Memory}
 use Rattle.xl_parts.specs.declared.State.{State}
 use Rattle.xl_parts.specs.declared.Stepped.{Stepped}
@@ -59,21 +58,21 @@ module _ (m : Memory) (n : ℕ) (f : OpenFrame) where
   abbrev at : Phase → State
   at p = record { phase = p; memory = m; count = n }
 
-  crosses : (h : Held) (g : OpenFrame) → Leaves Xl6 (crossed h g (at Xl6))
-  crosses Nothing g = refl
-  crosses (Frame t) g = by_test (Leaves Xl6) (stands m.aip t g) (λ q. refl) (λ q. by_test (Leaves Xl6) (comes_back g t) (λ r. refl) (λ r. refl))
+  crosses : (h : Option OpenFrame) (g : OpenFrame) → Leaves Xl6 (crossed h g (at Xl6))
+  crosses None g = refl
+  crosses (Some t) g = by_test (Leaves Xl6) (stands m.aip t g) (λ q. refl) (λ q. by_test (Leaves Xl6) (comes_back g t) (λ r. refl) (λ r. refl))
 
   -- the OPEN that XL5 remembered
   abbrev sent : State
   sent = in6 (at Xl5)
 
-  crosses_in_5 : (h : Held) (g : OpenFrame) → Leaves Xl5 (crossed h g sent)
-  crosses_in_5 Nothing g = refl
-  crosses_in_5 (Frame t) g = by_test (Leaves Xl5) (stands m.aip t g) (λ q. refl) (λ q. by_test (Leaves Xl5) (comes_back g t) (λ r. refl) (λ r. refl))
+  crosses_in_5 : (h : Option OpenFrame) (g : OpenFrame) → Leaves Xl5 (crossed h g sent)
+  crosses_in_5 None g = refl
+  crosses_in_5 (Some t) g = by_test (Leaves Xl5) (stands m.aip t g) (λ q. refl) (λ q. by_test (Leaves Xl5) (comes_back g t) (λ r. refl) (λ r. refl))
 
-  hears_in_5 : (h : Held) → Leaves Xl5 (heard_in6 h sent)
-  hears_in_5 Nothing = refl
-  hears_in_5 (Frame g) = crosses_in_5 m.held g
+  hears_in_5 : (h : Option OpenFrame) → Leaves Xl5 (heard_in6 h sent)
+  hears_in_5 None = refl
+  hears_in_5 (Some g) = crosses_in_5 m.held g
 
   walk : (k : Kind) (x : Said) (p : Phase) → Every k (Leaves p) (rows p f x (at p))
   walk k x Xl0 = ((λ q. refl), ((λ q. refl), tt))

@@ -1,6 +1,7 @@
 -- What a link remembers in a state is what it met and answered since the action that began this: the OPEN that it transmitted, the OPEN that
 -- it forwarded, or the connection. The row with that action clears or sets the memory, and until the state is left each row changes it as
 -- the event says. Assumes nothing.
+use Rattle.std.specs.Prelude.{Err, Ok, Result, None, Option, Some}
 use Prim.Native.Nat.{ℕ}
 use mathlib.Core.Bool.{Bool, false, not}
 use mathlib.Core.List.{List, [], ◌∷◌}
@@ -11,7 +12,6 @@ use Rattle.refusals.proofs.Causes.{by_causes}
 use Rattle.refusals.specs.declared.Refusal.{Refusal}
 use Rattle.open_frame.specs.Open.{read_open}
 use Rattle.open_frame.specs.declared.OpenFrame.{OpenFrame}
-use Rattle.open_frame.specs.declared.OpenRead.{OpenRead}
 use Rattle.xl_parts.specs.declared.Phase.{Phase}
 use Rattle.xl_parts.specs.declared.Phase.TheVariants.{Xl0, Xl1, Xl2, Xl3, Xl4, Xl5, Xl6, Xl7, Xl8, Xl9, Xl10}
 use Rattle.xl_parts.specs.declared.Wait.{Wait}
@@ -24,10 +24,6 @@ use Rattle.xl_parts.specs.declared.BreakEvent.{BreakEvent}
 use Rattle.xl_parts.specs.declared.Event.{Event}
 use Rattle.xl_parts.specs.declared.Event.TheVariants.{Line, Router, Manager, Own, Break, Disable}
 use Rattle.xl_parts.specs.declared.Action.{Action}
-use Rattle.xl_parts.specs.declared.Held.{Held}
-use Rattle.xl_parts.specs.declared.Held.TheVariants.{Nothing, Frame}
-use Rattle.xl_parts.specs.declared.Seen.{Seen}
-use Rattle.xl_parts.specs.declared.Seen.TheVariants.{Never}
 use Rattle.xl_parts.specs.declared.Memory.{Memory}
 use Rattle.xl_parts.specs.declared.State.{State}
 use Rattle.xl_parts.specs.declared.Stepped.{Stepped}
@@ -44,23 +40,23 @@ use Rattle.xl_calls.specs.Memory.{blocked_met, status_met, transmitted, aip_met,
 use Rattle.xl_calls.proofs.Looked.{looked}
 
 -- XL2, since an OPEN was forwarded
-pub record In2 (m : Memory) (b : Bool) (a : Seen) : Type 0 where
+pub record In2 (m : Memory) (b : Bool) (a : Option Wait) : Type 0 where
   pub close : m.close ≡ false
   pub broke : m.broke ≡ b
-  pub never : m.aip ≡ Never
-  pub none : a ≡ Never
+  pub never : m.aip ≡ None
+  pub none : a ≡ None
 
 -- XL5, since OPEN was transmitted
-pub record In5 (m : Memory) (f : Held) (a : Seen) (o : Held) (b : Bool) : Type 0 where
+pub record In5 (m : Memory) (f : Option OpenFrame) (a : Option Wait) (o : Option OpenFrame) (b : Bool) : Type 0 where
   pub close : m.close ≡ false
   pub held : m.held ≡ f
-  pub never : m.aip ≡ Never
-  pub none : a ≡ Never
+  pub never : m.aip ≡ None
+  pub none : a ≡ None
   pub heard : m.heard ≡ o
   pub broke : m.broke ≡ b
 
 -- XL6 too
-pub record In6 (m : Memory) (f : Held) (a : Seen) : Type 0 where
+pub record In6 (m : Memory) (f : Option OpenFrame) (a : Option Wait) : Type 0 where
   pub close : m.close ≡ false
   pub held : m.held ≡ f
   pub aip : m.aip ≡ a
@@ -82,17 +78,17 @@ Knows Xl10 m ms = Unit {0}
 -- the event e with the frame f, in the state p, where m is remembered and ms was met
 module _ (m : Memory) (n : ℕ) (f : OpenFrame) (ms : List Met) where
   abbrev After : Phase → Event → Effect → Type 0
-  After p e x = Knows x.state.phase x.state.memory (noted p e (Frame f) (done x) ms)
+  After p e x = Knows x.state.phase x.state.memory (noted p e (Some f) (done x) ms)
 
   abbrev at : Phase → State
   at p = link p m n
 
   -- XL5 is entered
-  sends_open : m.close ≡ false → In5 (record { held = Frame f; heard = Nothing; aip = Never; broke = false; close = m.close; blocked = m.blocked }) (Frame f) Never Nothing false
+  sends_open : m.close ≡ false → In5 (record { held = Some f; heard = None; aip = None; broke = false; close = m.close; blocked = m.blocked }) (Some f) None None false
   sends_open h = record { close = h; held = refl; never = refl; none = refl; heard = refl; broke = refl }
 
   -- XL2 is entered
-  forwards_open : (h o : Held) (b : Bool) → m.close ≡ false → In2 (record { held = h; heard = o; aip = Never; broke = false; close = m.close; blocked = b }) false Never
+  forwards_open : (h o : Option OpenFrame) (b : Bool) → m.close ≡ false → In2 (record { held = h; heard = o; aip = None; broke = false; close = m.close; blocked = b }) false None
   forwards_open h o b e = record { close = e; broke = refl; never = refl; none = refl }
 
   -- what holds of each row of a state, and of what is unexpected there, holds of what the table does
@@ -164,13 +160,13 @@ module _ (m : Memory) (n : ℕ) (f : OpenFrame) (ms : List Met) where
     waits : In6 six.memory (transmitted ms) (aip_met ms)
     waits = record { close = h.close; held = h.held; aip = h.never ∙ sym h.none }
 
-    crosses5 : (t : Held) (g : OpenFrame) → Behind (crossed t g six)
-    crosses5 Nothing g = waits
-    crosses5 (Frame t) g = by_test Behind (stands m.aip t g) (λ q. waits) (λ q. by_test Behind (comes_back g t) (λ r. forwards_open _ _ _ h.close) (λ r. (h.close, refl)))
+    crosses5 : (t : Option OpenFrame) (g : OpenFrame) → Behind (crossed t g six)
+    crosses5 None g = waits
+    crosses5 (Some t) g = by_test Behind (stands m.aip t g) (λ q. waits) (λ q. by_test Behind (comes_back g t) (λ r. forwards_open _ _ _ h.close) (λ r. (h.close, refl)))
 
-    hears5 : (o : Held) → Behind (heard_in6 o six)
-    hears5 Nothing = waits
-    hears5 (Frame g) = crosses5 m.held g
+    hears5 : (o : Option OpenFrame) → Behind (heard_in6 o six)
+    hears5 None = waits
+    hears5 (Some g) = crosses5 m.held g
 
   in5 : (e : Event) → Knows Xl5 m ms → After Xl5 e (takes f e (at Xl5))
   in5 (Line Primitive.Open) h = record { close = h.close; held = h.held; never = h.never; none = h.none; heard = refl; broke = h.broke }
@@ -188,9 +184,9 @@ module _ (m : Memory) (n : ℕ) (f : OpenFrame) (ms : List Met) where
   in5 (Break BreakEvent.Timeout) h = h
   in5 Disable h = refl
 
-  crosses6 : (t : Held) → Knows Xl6 m ms → After Xl6 (Line Primitive.Open) (crossed t f (at Xl6))
-  crosses6 Nothing h = h
-  crosses6 (Frame t) h = by_test (After Xl6 (Line Primitive.Open)) (stands m.aip t f) (λ q. h) (λ q. by_test (After Xl6 (Line Primitive.Open)) (comes_back f t) (λ r. forwards_open _ _ _ h.close) (λ r. (h.close, refl)))
+  crosses6 : (t : Option OpenFrame) → Knows Xl6 m ms → After Xl6 (Line Primitive.Open) (crossed t f (at Xl6))
+  crosses6 None h = h
+  crosses6 (Some t) h = by_test (After Xl6 (Line Primitive.Open)) (stands m.aip t f) (λ q. h) (λ q. by_test (After Xl6 (Line Primitive.Open)) (comes_back f t) (λ r. forwards_open _ _ _ h.close) (λ r. (h.close, refl)))
 
   in6 : (e : Event) → Knows Xl6 m ms → After Xl6 e (takes f e (at Xl6))
   in6 (Line Primitive.Open) h = crosses6 m.held h
@@ -254,14 +250,14 @@ module _ (m : Memory) (n : ℕ) (f : OpenFrame) (ms : List Met) where
   each_state Xl10 e h = by_rows Xl10 e (λ x. tt) ((λ q. refl), ((λ q. refl), tt)) tt
 
 -- what holds of a refusal, and of an event that is taken, holds of a call with its event and frame
-module _ (s : State) (P : Event → Held → Stepped → Type 0) (stays : (e : Event) (h : Held) (k : Refusal) → P e h (refused s k)) (goes : (e : Event) (f : OpenFrame) → P e (Frame f) (done (takes f e s))) where
-  stepped : (e : Event) (f : OpenFrame) → P e (Frame f) (step_of f e s)
+module _ (s : State) (P : Event → Option OpenFrame → Stepped → Type 0) (stays : (e : Event) (h : Option OpenFrame) (k : Refusal) → P e h (refused s k)) (goes : (e : Event) (f : OpenFrame) → P e (Some f) (done (takes f e s))) where
+  stepped : (e : Event) (f : OpenFrame) → P e (Some f) (step_of f e s)
   unfolding step_of
-  stepped e f = by_causes (P e (Frame f)) (refused s) (stays e (Frame f)) (causes f e s) (done (takes f e s)) (λ off. goes e f)
+  stepped e f = by_causes (P e (Some f)) (refused s) (stays e (Some f)) (causes f e s) (done (takes f e s)) (λ off. goes e f)
 
-  read : (r : OpenRead) → P (Line Primitive.Open) (frame_read r) (opened r s)
-  read (OpenRead.Refused k) = stays (Line Primitive.Open) Nothing k
-  read (OpenRead.Frame f) = stepped (Line Primitive.Open) f
+  read : (r : Result OpenFrame Refusal) → P (Line Primitive.Open) (frame_read r) (opened r s)
+  read (Err k) = stays (Line Primitive.Open) None k
+  read (Ok f) = stepped (Line Primitive.Open) f
 
   by_event : (c : Call) → P (said_in c) (frame_in c) (call_of c s)
   unfolding call_of receive_of

@@ -1,9 +1,9 @@
 -- The calls of a link that C makes, one behind the other, each with the link that the call before gave back. Assumes nothing.
-use Rattle.std.specs.Prelude.{ℕ, List, [], ◌∷◌, ◌++◌}
+use Rattle.xl_parts.specs.declared.Event.{Event}
+use Rattle.std.specs.Prelude.{ℕ, List, [], ◌∷◌, ◌++◌, None, Option, Some}
 use Rattle.open_lent.specs.Lent.{frame_of}
 use Rattle.open_lent.specs.declared.Open.{Open}
 use Rattle.xl_numbers.specs.declared.codes.Code.{Code}
-use Rattle.xl_numbers.specs.declared.codes.EventRead.{EventRead}
 use Rattle.xl_numbers.specs.Codes.{event_of}
 use Rattle.xl_lent.specs.declared.Link.{Link}
 use Rattle.xl_lent.specs.declared.Step.{Step}
@@ -25,9 +25,9 @@ face_run [] l = l
 face_run (c ∷ cs) l = face_run cs (face_of c l).state
 
 -- the machine's calls that they make: two numbers that name no event make none
-abbrev pub named : EventRead → Open → List Call
-named (EventRead.Named e) o = event e (frame_of o) ∷ []
-named EventRead.Unnamed o = []
+abbrev pub named : Option Event → Open → List Call
+named (Some e) o = event e (frame_of o) ∷ []
+named None o = []
 
 abbrev pub makes : FaceCall → List Call
 makes (numbers c o) = named (event_of c) o

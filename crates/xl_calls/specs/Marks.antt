@@ -10,7 +10,6 @@ use Rattle.xl_parts.specs.declared.Action.{Action}
 
 -- OPEN is transmitted
 abbrev pub opens : Action → Bool
-opens Action.None = false
 opens (Action.Transmit Primitive.Open) = true
 opens (Action.Transmit Primitive.OpenAccept) = false
 opens (Action.Transmit (Primitive.OpenReject k)) = false
@@ -22,7 +21,6 @@ opens (Action.Break b) = false
 
 -- an OPEN is forwarded to the router: SendOpen, or BackoffReversePath
 abbrev pub forwards : Action → Bool
-forwards Action.None = false
 forwards (Action.Transmit p) = false
 forwards (Action.Send Message.SendOpen) = true
 forwards (Action.Send Message.SendClose) = false
@@ -36,7 +34,6 @@ forwards (Action.Break b) = false
 
 -- a connection begins: OPEN_ACCEPT is transmitted, or OpenAccept sent
 abbrev pub accepts : Action → Bool
-accepts Action.None = false
 accepts (Action.Transmit Primitive.Open) = false
 accepts (Action.Transmit Primitive.OpenAccept) = true
 accepts (Action.Transmit (Primitive.OpenReject k)) = false
@@ -54,7 +51,6 @@ accepts (Action.Break b) = false
 
 -- a path is requested: a stay in XL1 begins
 abbrev pub requests : Action → Bool
-requests Action.None = false
 requests (Action.Transmit p) = false
 requests (Action.Send m) = false
 requests (Action.RequestPath timeout) = not timeout

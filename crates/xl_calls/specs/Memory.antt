@@ -1,5 +1,7 @@
 -- What document 01 has a link remember, a second time: read from what the link met and answered, and not from its memory. Assumes nothing.
-use Rattle.std.specs.Prelude.{Bool, true, false, List, [], ◌∷◌}
+use Rattle.xl_parts.specs.declared.Wait.{Wait}
+use Rattle.open_frame.specs.declared.OpenFrame.{OpenFrame}
+use Rattle.std.specs.Prelude.{Bool, true, false, List, [], ◌∷◌, None, Option, Some}
 use Rattle.xl_parts.specs.declared.Phase.{Phase}
 use Rattle.xl_parts.specs.declared.Phase.TheVariants.{Xl0, Xl1, Xl2, Xl3, Xl4, Xl5, Xl6, Xl7, Xl8, Xl9, Xl10}
 use Rattle.xl_parts.specs.declared.Arbitration.{Arbitration}
@@ -8,15 +10,11 @@ use Rattle.xl_parts.specs.declared.Message.{Message}
 use Rattle.xl_parts.specs.declared.Confirmation.{Confirmation}
 use Rattle.xl_parts.specs.declared.Event.{Event}
 use Rattle.xl_parts.specs.declared.Event.TheVariants.{Line, Router, Manager, Own, Break, Disable}
-use Rattle.xl_parts.specs.declared.Held.{Held}
-use Rattle.xl_parts.specs.declared.Held.TheVariants.{Nothing}
-use Rattle.xl_parts.specs.declared.Seen.{Seen}
-use Rattle.xl_parts.specs.declared.Seen.TheVariants.{Never, Latest}
 use Rattle.xl_calls.specs.Met.{Met, shown_at, since, came}
 use Rattle.xl_calls.specs.Marks.{opens, forwards, accepts, requests, is_break, is_close, is_send_close}
 
 -- the latest OPEN received, after this event with the frame f
-abbrev pub open_after : Event → Held → Held → Held
+abbrev pub open_after : Event → Option OpenFrame → Option OpenFrame → Option OpenFrame
 open_after (Line Primitive.Open) f earlier = f
 open_after (Line Primitive.OpenAccept) f earlier = earlier
 open_after (Line (Primitive.OpenReject k)) f earlier = earlier
@@ -28,16 +26,16 @@ open_after (Own n) f earlier = earlier
 open_after (Break b) f earlier = earlier
 open_after Disable f earlier = earlier
 
-abbrev pub latest_open : List Met → Held
-latest_open [] = Nothing
+abbrev pub latest_open : List Met → Option OpenFrame
+latest_open [] = None
 latest_open (m ∷ ms) = open_after m.event m.frame (latest_open ms)
 
 -- the latest AIP, after this event
-abbrev pub aip_after : Event → Seen → Seen
+abbrev pub aip_after : Event → Option Wait → Option Wait
 aip_after (Line Primitive.Open) earlier = earlier
 aip_after (Line Primitive.OpenAccept) earlier = earlier
 aip_after (Line (Primitive.OpenReject k)) earlier = earlier
-aip_after (Line (Primitive.Aip w)) earlier = Latest w
+aip_after (Line (Primitive.Aip w)) earlier = Some w
 aip_after (Line Primitive.Close) earlier = earlier
 aip_after (Router m) earlier = earlier
 aip_after (Manager c) earlier = earlier
@@ -46,7 +44,7 @@ aip_after (Break b) earlier = earlier
 aip_after Disable earlier = earlier
 
 -- an AIP is seen in XL6; in another state it is unexpected
-abbrev pub aip_in : Phase → Event → Seen → Seen
+abbrev pub aip_in : Phase → Event → Option Wait → Option Wait
 aip_in Xl0 e earlier = earlier
 aip_in Xl1 e earlier = earlier
 aip_in Xl2 e earlier = earlier
@@ -59,16 +57,16 @@ aip_in Xl8 e earlier = earlier
 aip_in Xl9 e earlier = earlier
 aip_in Xl10 e earlier = earlier
 
-abbrev pub latest_aip : List Met → Seen
-latest_aip [] = Never
+abbrev pub latest_aip : List Met → Option Wait
+latest_aip [] = None
 latest_aip (m ∷ ms) = aip_in m.phase m.event (latest_aip ms)
 
 -- the latest ArbStatus, after this event
-abbrev pub status_after : Event → Seen → Seen
+abbrev pub status_after : Event → Option Wait → Option Wait
 status_after (Line p) earlier = earlier
 status_after (Router Message.SendOpen) earlier = earlier
 status_after (Router Message.SendClose) earlier = earlier
-status_after (Router (Message.ArbStatus w)) earlier = Latest w
+status_after (Router (Message.ArbStatus w)) earlier = Some w
 status_after (Router Message.OpenAccept) earlier = earlier
 status_after (Router (Message.OpenReject k)) earlier = earlier
 status_after (Router Message.BackoffRetry) earlier = earlier
@@ -79,7 +77,7 @@ status_after (Break b) earlier = earlier
 status_after Disable earlier = earlier
 
 -- an ArbStatus is listed for XL3 alone
-abbrev pub status_in : Phase → Event → Seen → Seen
+abbrev pub status_in : Phase → Event → Option Wait → Option Wait
 status_in Xl0 e earlier = earlier
 status_in Xl1 e earlier = earlier
 status_in Xl2 e earlier = earlier
@@ -92,8 +90,8 @@ status_in Xl8 e earlier = earlier
 status_in Xl9 e earlier = earlier
 status_in Xl10 e earlier = earlier
 
-abbrev pub latest_status : List Met → Seen
-latest_status [] = Never
+abbrev pub latest_status : List Met → Option Wait
+latest_status [] = None
 latest_status (m ∷ ms) = status_in m.phase m.event (latest_status ms)
 
 -- whether the last Arbitrating was Blocked On Partial, after this event
@@ -120,17 +118,17 @@ abbrev pub blocked_met : List Met → Bool
 blocked_met ms = last_blocked (since requests ms)
 
 -- the frame transmitted: that of the last OPEN
-abbrev pub transmitted : List Met → Held
+abbrev pub transmitted : List Met → Option OpenFrame
 transmitted ms = shown_at opens ms
 
 -- 01 XL.31: OPEN: if no AIP was seen and it isn't of higher priority than the frame transmitted, nothing.
 -- the latest AIP since the OPEN was transmitted
-abbrev pub aip_met : List Met → Seen
+abbrev pub aip_met : List Met → Option Wait
 aip_met ms = latest_aip (since opens ms)
 
 -- 01 XL.26
 -- the latest OPEN since the link's own was transmitted, and whether BREAK came
-abbrev pub open_met : List Met → Held
+abbrev pub open_met : List Met → Option OpenFrame
 open_met ms = latest_open (since opens ms)
 
 abbrev pub break_sent : List Met → Bool
@@ -143,7 +141,7 @@ break_forwarded ms = came is_break (since forwards ms)
 
 -- 01 XL.20
 -- the latest ArbStatus since an OPEN was forwarded
-abbrev pub status_met : List Met → Seen
+abbrev pub status_met : List Met → Option Wait
 status_met ms = latest_status (since forwards ms)
 
 -- 01 XL.33 01 XL.34

@@ -1,4 +1,5 @@
-// What a kind that the connection manager names is answered with.
+// What a kind that the connection manager names is answered with. A From would stand with the kinds, in crate xl_parts, below the table
+// that says what each is answered with (crate xl_rows).
 ghost use Rattle.std.specs.Prelude.{◌≡◌};
 ghost use Rattle.xl_rows.specs.Table.{reject_for, wait_for, is_blocked};
 
@@ -28,9 +29,5 @@ pub(crate) fn wait_for(a: Arbitration) -> Wait
 pub(crate) fn is_blocked(a: Arbitration) -> bool
     ensures { result ≡ is_blocked a }
 {
-    match a {
-        Arbitration::WaitingOnPartial => false,
-        Arbitration::BlockedOnPartial => true,
-        Arbitration::WaitingOnConnection => false,
-    }
+    matches!(a, Arbitration::BlockedOnPartial)
 }

@@ -20,8 +20,8 @@ pub fn takes(s: State, e: Event, f: OpenFrame) -> Stepped
     ensures { result ≡ done (table.takes f e s) }
 {
     match e {
-        Event::Break(b) => return on_break(s, b),
-        Event::Disable => return to(s, Phase::Xl0),
-        _ => return by_phase(s, e, f),
+        Event::Break(b) => on_break(s, b),
+        Event::Disable => to(s, Phase::Xl0),
+        _ => by_phase(s, e, f),
     }
 }

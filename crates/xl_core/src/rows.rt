@@ -6,22 +6,22 @@ ghost use Rattle.xl_parts.specs.declared.Primitive.{Primitive};
 ghost use Rattle.xl_parts.specs.Parts as parts;
 ghost use Rattle.xl_parts.specs.Parts.{done};
 ghost use Rattle.xl_rows.specs.Table as table;
-ghost use Rattle.xl_rows.specs.Table.{wait_for, is_blocked, timed_out, was_seen, comes_back, sent_in5, send_close_in7};
+ghost use Rattle.xl_rows.specs.Table.{wait_for, is_blocked, timed_out, comes_back, sent_in5, send_close_in7};
 
-use crate::effects::{broken, sends, sends_here, transmits, transmits_here, unexpected};
+use crate::effects::{broken, does, goes, unexpected};
 use crate::kinds::{is_blocked, wait_for};
 use crate::memory::{blocking, closing, holding, in_6};
 use open_frame::OpenFrame;
+use xl_parts::Action::{RequestPath, Send, Transmit};
 use xl_parts::{
-    Action, Arbitration, Held, Memory, Message, Phase, Primitive, Seen, State, Stepped, Wait,
-    ahead, stay, to,
+    Arbitration, Memory, Message, Phase, Primitive, State, Stepped, Wait, ahead, stay, to,
 };
 
 pub(crate) fn timed_out(s: State) -> Stepped
     ensures { result ≡ done (timed_out s) }
 {
     if s.memory.blocked {
-        return ahead(Action::RequestPath(true), stay(s));
+        return does(s, RequestPath(true));
     }
     stay(s)
 }
@@ -33,15 +33,6 @@ pub(crate) fn forwarded(s: State) -> Stepped
         return broken(s);
     }
     to(s, Phase::Xl3)
-}
-
-fn was_seen(a: Seen) -> bool
-    ensures { result ≡ was_seen a }
-{
-    match a {
-        Seen::Never => false,
-        Seen::Latest(_) => true,
-    }
 }
 
 // Whether g comes back on the path of f.
@@ -56,22 +47,19 @@ fn backoff(s: State, f: OpenFrame, g: OpenFrame) -> Stepped
 {
     let t = holding(s, g);
     if comes_back(g, f) {
-        return sends(t, Message::BackoffReversePath, Phase::Xl2);
+        return goes(t, Send(Message::BackoffReversePath), Phase::Xl2);
     }
-    sends(t, Message::BackoffRetry, Phase::Xl1)
+    goes(t, Send(Message::BackoffRetry), Phase::Xl1)
 }
 
 // An OPEN received in XL6.
 pub(crate) fn crossed(s: State, g: OpenFrame) -> Stepped
     ensures { result ≡ done (table.crossed s.memory.held g s) }
 {
-    let m = s.memory;
-    let held = m.held;
-    let aip = m.aip;
-    let Held::Frame(f) = held else {
+    let Some(f) = s.memory.held else {
         return stay(s);
     };
-    if !was_seen(aip) & !open_frame::higher_than(g, f) {
+    if s.memory.aip.is_none() & !open_frame::higher_than(g, f) {
         return stay(s);
     }
     backoff(s, f, g)
@@ -84,8 +72,7 @@ fn remembered(s: State, m: Memory) -> Stepped
     if m.broke {
         return broken(s);
     }
-    let heard = m.heard;
-    let Held::Frame(g) = heard else {
+    let Some(g) = m.heard else {
         return stay(s);
     };
     crossed(s, g)
@@ -95,10 +82,9 @@ fn remembered(s: State, m: Memory) -> Stepped
 pub(crate) fn sent_in_5(s: State) -> Stepped
     ensures { result ≡ done (sent_in5 s) }
 {
-    let m = s.memory;
     ahead(
-        Action::Send(Message::ArbStatus(Wait::Device)),
-        remembered(in_6(s), m),
+        Some(Send(Message::ArbStatus(Wait::Device))),
+        remembered(in_6(s), s.memory),
     )
 }
 
@@ -109,7 +95,7 @@ pub(crate) fn close_in_7(s: State) -> Stepped
     if s.memory.close {
         return unexpected(s);
     }
-    sends_here(closing(s), Message::SendClose)
+    does(closing(s), Send(Message::SendClose))
 }
 
 // SendClose in XL7.
@@ -117,14 +103,17 @@ pub(crate) fn send_close_in_7(s: State) -> Stepped
     ensures { result ≡ done (send_close_in7 s) }
 {
     if s.memory.close {
-        return transmits(s, Primitive::Close, Phase::Xl0);
+        return goes(s, Transmit(Primitive::Close), Phase::Xl0);
     }
-    transmits(s, Primitive::Close, Phase::Xl8)
+    goes(s, Transmit(Primitive::Close), Phase::Xl8)
 }
 
 // Arbitrating in XL1.
 pub(crate) fn arbitrates(s: State, a: Arbitration) -> Stepped
     ensures { result ≡ done (parts.stay (Action.Transmit (Primitive.Aip (wait_for a)) ∷ []) (parts.blocking (is_blocked a) s)) }
 {
-    transmits_here(blocking(s, is_blocked(a)), Primitive::Aip(wait_for(a)))
+    does(
+        blocking(s, is_blocked(a)),
+        Transmit(Primitive::Aip(wait_for(a))),
+    )
 }

@@ -1,17 +1,17 @@
-// The states' rows. Each arm returns: a match that has a value has a place for it, which the checker then follows through the function.
-// Each takes the frame, as `in_state` does, whether or not a row of its state holds one.
+// The states' rows. Each takes the frame, as `in_state` does, whether or not a row of its state holds one.
 ghost use Rattle.std.specs.Prelude.{◌≡◌};
 ghost use Rattle.xl_parts.specs.declared.Phase.{Phase};
 ghost use Rattle.xl_parts.specs.Parts.{done};
 ghost use Rattle.xl_rows.specs.Table.{in_state, on_break};
 
-use crate::effects::{broken, opens, sends, sends_here, transmits, transmits_here, unexpected};
+use crate::effects::{broken, does, goes, opens, unexpected};
 use crate::kinds::reject_for;
 use crate::memory::{breaking, hearing, holding, seeing};
 use crate::rows::{
     arbitrates, close_in_7, crossed, forwarded, send_close_in_7, sent_in_5, timed_out,
 };
 use open_frame::OpenFrame;
+use xl_parts::Action::{Send, Transmit};
 use xl_parts::{
     BreakEvent, Confirmation, Event, Message, Notice, Phase, Primitive, State, Stepped, stay, to,
 };
@@ -20,15 +20,9 @@ fn at_0(s: State, e: Event, f: OpenFrame) -> Stepped
     ensures { result ≡ done (in_state Phase.Xl0 f e s) }
 {
     match e {
-        Event::Line(p) => match p {
-            Primitive::Open => return to(holding(s, f), Phase::Xl1),
-            _ => return unexpected(s),
-        },
-        Event::Router(m) => match m {
-            Message::SendOpen => return opens(s, f),
-            _ => return unexpected(s),
-        },
-        _ => return unexpected(s),
+        Event::Line(Primitive::Open) => to(holding(s, f), Phase::Xl1),
+        Event::Router(Message::SendOpen) => opens(s, f),
+        _ => unexpected(s),
     }
 }
 
@@ -36,19 +30,16 @@ fn at_1(s: State, e: Event, f: OpenFrame) -> Stepped
     ensures { result ≡ done (in_state Phase.Xl1 f e s) }
 {
     match e {
-        Event::Manager(c) => match c {
-            Confirmation::ArbWon => return sends(s, Message::SendOpen, Phase::Xl2),
-            Confirmation::ArbLost => return to(s, Phase::Xl0),
-            Confirmation::ArbReject(d) => {
-                return transmits(s, Primitive::OpenReject(reject_for(d)), Phase::Xl4);
-            }
-            Confirmation::Arbitrating(a) => return arbitrates(s, a),
-        },
-        Event::Own(n) => match n {
-            Notice::PathTimer => return timed_out(s),
-            _ => return unexpected(s),
-        },
-        _ => return unexpected(s),
+        Event::Manager(Confirmation::ArbWon) => goes(s, Send(Message::SendOpen), Phase::Xl2),
+        Event::Manager(Confirmation::ArbLost) => to(s, Phase::Xl0),
+        Event::Manager(Confirmation::ArbReject(d)) => goes(
+            s,
+            Transmit(Primitive::OpenReject(reject_for(d))),
+            Phase::Xl4,
+        ),
+        Event::Manager(Confirmation::Arbitrating(a)) => arbitrates(s, a),
+        Event::Own(Notice::PathTimer) => timed_out(s),
+        _ => unexpected(s),
     }
 }
 
@@ -56,11 +47,8 @@ fn at_2(s: State, e: Event, f: OpenFrame) -> Stepped
     ensures { result ≡ done (in_state Phase.Xl2 f e s) }
 {
     match e {
-        Event::Own(n) => match n {
-            Notice::Forwarded => return forwarded(s),
-            _ => return unexpected(s),
-        },
-        _ => return unexpected(s),
+        Event::Own(Notice::Forwarded) => forwarded(s),
+        _ => unexpected(s),
     }
 }
 
@@ -68,15 +56,16 @@ fn at_3(s: State, e: Event, f: OpenFrame) -> Stepped
     ensures { result ≡ done (in_state Phase.Xl3 f e s) }
 {
     match e {
-        Event::Router(m) => match m {
-            Message::ArbStatus(w) => return transmits_here(seeing(s, w), Primitive::Aip(w)),
-            Message::OpenAccept => return transmits(s, Primitive::OpenAccept, Phase::Xl7),
-            Message::OpenReject(k) => return transmits(s, Primitive::OpenReject(k), Phase::Xl0),
-            Message::BackoffRetry => return to(s, Phase::Xl1),
-            Message::BackoffReversePath => return opens(s, f),
-            _ => return unexpected(s),
-        },
-        _ => return unexpected(s),
+        Event::Router(Message::ArbStatus(w)) => does(seeing(s, w), Transmit(Primitive::Aip(w))),
+        Event::Router(Message::OpenAccept) => goes(s, Transmit(Primitive::OpenAccept), Phase::Xl7),
+        Event::Router(Message::OpenReject(k)) => goes(
+            s,
+            Transmit(Primitive::OpenReject(k)),
+            Phase::Xl0,
+        ),
+        Event::Router(Message::BackoffRetry) => to(s, Phase::Xl1),
+        Event::Router(Message::BackoffReversePath) => opens(s, f),
+        _ => unexpected(s),
     }
 }
 
@@ -85,11 +74,8 @@ fn at_4_and_9(s: State, e: Event, f: OpenFrame) -> Stepped
     ensures { result ≡ done (in_state Phase.Xl4 f e s) }
 {
     match e {
-        Event::Own(n) => match n {
-            Notice::Sent => return to(s, Phase::Xl0),
-            _ => return unexpected(s),
-        },
-        _ => return unexpected(s),
+        Event::Own(Notice::Sent) => to(s, Phase::Xl0),
+        _ => unexpected(s),
     }
 }
 
@@ -97,15 +83,9 @@ fn at_5(s: State, e: Event, f: OpenFrame) -> Stepped
     ensures { result ≡ done (in_state Phase.Xl5 f e s) }
 {
     match e {
-        Event::Line(p) => match p {
-            Primitive::Open => return stay(hearing(s, f)),
-            _ => return unexpected(s),
-        },
-        Event::Own(n) => match n {
-            Notice::Sent => return sent_in_5(s),
-            _ => return unexpected(s),
-        },
-        _ => return unexpected(s),
+        Event::Line(Primitive::Open) => stay(hearing(s, f)),
+        Event::Own(Notice::Sent) => sent_in_5(s),
+        _ => unexpected(s),
     }
 }
 
@@ -113,14 +93,11 @@ fn at_6(s: State, e: Event, f: OpenFrame) -> Stepped
     ensures { result ≡ done (in_state Phase.Xl6 f e s) }
 {
     match e {
-        Event::Line(p) => match p {
-            Primitive::OpenAccept => return sends(s, Message::OpenAccept, Phase::Xl7),
-            Primitive::OpenReject(k) => return sends(s, Message::OpenReject(k), Phase::Xl0),
-            Primitive::Aip(w) => return sends_here(seeing(s, w), Message::ArbStatus(w)),
-            Primitive::Open => return crossed(s, f),
-            Primitive::Close => return unexpected(s),
-        },
-        _ => return unexpected(s),
+        Event::Line(Primitive::OpenAccept) => goes(s, Send(Message::OpenAccept), Phase::Xl7),
+        Event::Line(Primitive::OpenReject(k)) => goes(s, Send(Message::OpenReject(k)), Phase::Xl0),
+        Event::Line(Primitive::Aip(w)) => does(seeing(s, w), Send(Message::ArbStatus(w))),
+        Event::Line(Primitive::Open) => crossed(s, f),
+        _ => unexpected(s),
     }
 }
 
@@ -128,15 +105,9 @@ fn at_7(s: State, e: Event, f: OpenFrame) -> Stepped
     ensures { result ≡ done (in_state Phase.Xl7 f e s) }
 {
     match e {
-        Event::Line(p) => match p {
-            Primitive::Close => return close_in_7(s),
-            _ => return unexpected(s),
-        },
-        Event::Router(m) => match m {
-            Message::SendClose => return send_close_in_7(s),
-            _ => return unexpected(s),
-        },
-        _ => return unexpected(s),
+        Event::Line(Primitive::Close) => close_in_7(s),
+        Event::Router(Message::SendClose) => send_close_in_7(s),
+        _ => unexpected(s),
     }
 }
 
@@ -144,20 +115,16 @@ fn at_8(s: State, e: Event, f: OpenFrame) -> Stepped
     ensures { result ≡ done (in_state Phase.Xl8 f e s) }
 {
     match e {
-        Event::Line(p) => match p {
-            Primitive::Close => return sends(s, Message::SendClose, Phase::Xl0),
-            _ => return unexpected(s),
-        },
-        _ => return unexpected(s),
+        Event::Line(Primitive::Close) => goes(s, Send(Message::SendClose), Phase::Xl0),
+        _ => unexpected(s),
     }
 }
 
-// What is neither of BREAK nor Disable. This match has a value: with arms that return, a step takes longer (docs/DECISIONS.md).
+// What is neither of BREAK nor Disable. With arms that return, and no value, a step takes longer (docs/DECISIONS.md).
 pub(crate) fn by_phase(s: State, e: Event, f: OpenFrame) -> Stepped
     ensures { result ≡ done (in_state s.phase f e s) }
 {
-    let phase = s.phase;
-    match phase {
+    match s.phase {
         Phase::Xl0 => at_0(s, e, f),
         Phase::Xl1 => at_1(s, e, f),
         Phase::Xl2 => at_2(s, e, f),
@@ -174,25 +141,14 @@ pub(crate) fn by_phase(s: State, e: Event, f: OpenFrame) -> Stepped
 pub(crate) fn on_break(s: State, b: BreakEvent) -> Stepped
     ensures { result ≡ done (on_break s.phase b s) }
 {
-    let phase = s.phase;
-    match phase {
-        Phase::Xl1 => match b {
-            BreakEvent::Received => return to(s, Phase::Xl9),
-            _ => return unexpected(s),
-        },
-        Phase::Xl2 | Phase::Xl5 => match b {
-            BreakEvent::Received => return stay(breaking(s)),
-            _ => return unexpected(s),
-        },
-        Phase::Xl3 | Phase::Xl6 | Phase::Xl7 | Phase::Xl8 => match b {
-            BreakEvent::Received => return broken(s),
-            BreakEvent::Routed => return to(s, Phase::Xl10),
-            BreakEvent::Timeout => return unexpected(s),
-        },
-        Phase::Xl10 => match b {
-            BreakEvent::Routed => return unexpected(s),
-            _ => return to(s, Phase::Xl0),
-        },
-        _ => return unexpected(s),
+    match (s.phase, b) {
+        (Phase::Xl1, BreakEvent::Received) => to(s, Phase::Xl9),
+        (Phase::Xl2 | Phase::Xl5, BreakEvent::Received) => stay(breaking(s)),
+        (Phase::Xl3 | Phase::Xl6 | Phase::Xl7 | Phase::Xl8, BreakEvent::Received) => broken(s),
+        (Phase::Xl3 | Phase::Xl6 | Phase::Xl7 | Phase::Xl8, BreakEvent::Routed) => {
+            to(s, Phase::Xl10)
+        }
+        (Phase::Xl10, BreakEvent::Received | BreakEvent::Timeout) => to(s, Phase::Xl0),
+        _ => unexpected(s),
     }
 }

@@ -1,5 +1,6 @@
 -- What C is told is refused by the machine's own causes, to which that the numbers say a state is joined: the machine's refusals go
 -- through what C sees of a step. Assumes nothing.
+use Rattle.std.specs.Prelude.{Err, Ok, Result}
 use Prim.Native.Nat.{ℕ}
 use mathlib.Core.Bool.{Bool, true, false, not, cond, ◌&&◌}
 use mathlib.Core.List.{List, [], ◌∷◌, ◌++◌}
@@ -14,7 +15,6 @@ use Rattle.refusals.specs.declared.Refusal.{Refusal}
 use Rattle.refusals.proofs.Causes.{through}
 use Rattle.open_frame.specs.Open.{head_listed, head_of, frame_of, typed, read_causes, read_open}
 use Rattle.open_frame.specs.declared.OpenFrame.{OpenFrame}
-use Rattle.open_frame.specs.declared.OpenRead.{OpenRead}
 use Rattle.xl_parts.specs.declared.Primitive.{Primitive}
 use Rattle.xl_parts.specs.declared.Event.{Event}
 use Rattle.xl_parts.specs.Parts.{done}
@@ -67,15 +67,15 @@ receive_is l b =
     let e = Event.Line Primitive.Open in
     let d = told l (done (takes f e (state_of l))) in
     let listed = typed b && head_listed (head_of b) in
-    through (opened l) OpenRead.Refused (read_causes b) (OpenRead.Frame f)
+    through (opened l) Err (read_causes b) (Ok f)
     ∙ on_false (not (eqb (length b) 28)) (refused l Refusal.Length) (refuse (refused l) ((Refusal.Unlisted when not listed) ∷ []) (met l e f)) (refuse (refused l) ((Refusal.Unlisted when not listed) ∷ kept_causes l) d)
     (λ _. on_false (not listed) (refused l Refusal.Unlisted) (met l e f) (refuse (refused l) (kept_causes l) d)
     (λ off. met_is l e f ∙ ap (λ (t : Bool). refuse (refused l) ((Refusal.Unlisted when not t) ∷ kept_causes l) d) (and_right (typed b) _ (not-false listed off))))
 
-pub status_is : (l : Link) → link_status l ≡ refuse number_of (kept_causes l) (status_number (in_phase (state_of l).phase (state_of l).memory.aip))
+pub status_is : (l : Link) → link_status l ≡ refuse number_of (kept_causes l) (status_number (Ok (in_phase (state_of l).phase (state_of l).memory.aip)))
 unfolding link_status status_of keeps_lent
 status_is l =
     let s = state_of l in
-    let a = in_phase s.phase s.memory.aip in
-    ap (λ (n : ℕ). cond (not (formed l)) (number_of Refusal.Rules) n) (through status_number LinkStatus.Refused (status.status_causes s) a)
+    let a : Result LinkStatus Refusal = Ok (in_phase s.phase s.memory.aip) in
+    ap (λ (n : ℕ). cond (not (formed l)) (number_of Refusal.Rules) n) (through status_number Err (status.status_causes s) a)
     ∙ joined false (formed l) (keeps_rules s) (number_of Refusal.Rules) (number_of Refusal.Rules) (status_number a)

@@ -1,41 +1,36 @@
 -- The numbers of a link as C lends them, the state that they say, and a state as numbers. Assumes nothing.
-use Rattle.std.specs.Prelude.{ℕ, Bool, cond, ◌&&◌, eqb, ltb}
+use Rattle.xl_parts.specs.declared.Wait.{Wait}
+use Rattle.open_frame.specs.declared.OpenFrame.{OpenFrame}
+use Rattle.std.specs.Prelude.{ℕ, Bool, cond, ◌&&◌, List, [], ◌∷◌, map, eqb, ltb, is_some, None, Option, Some}
+use Rattle.std.specs.Option.{option_flatten, unwrap_or}
 use Rattle.laws.specs.Names.{flag}
 use Rattle.open_lent.specs.Lent as frames
 use Rattle.open_lent.specs.declared.Open.{Open}
 use Rattle.xl_parts.specs.declared.Phase.{Phase}
-use Rattle.xl_parts.specs.declared.Held.{Held}
-use Rattle.xl_parts.specs.declared.Seen.{Seen}
 use Rattle.xl_parts.specs.declared.State.{State}
-use Rattle.xl_parts.specs.declared.Actions.{Actions}
-use Rattle.xl_parts.specs.Parts.{phase_number}
-use Rattle.xl_numbers.specs.declared.states.PhaseRead.{PhaseRead}
-use Rattle.xl_numbers.specs.declared.states.AipRead.{AipRead}
+use Rattle.xl_parts.specs.Parts.{Actions, phase_number}
 use Rattle.xl_numbers.specs.States.{phase_of, aip_number, aip_of}
 use Rattle.xl_numbers.specs.Codes.{coded as numbered, action_number}
 use Rattle.xl_lent.specs.declared.Link.{Link}
-use Rattle.xl_lent.specs.declared.Codes.{Codes}
+use Rattle.xl_numbers.specs.declared.codes.Code.{Code}
 
 -- a number that names none stands in for the first, and nobody asks
-abbrev pub phase_in : PhaseRead → Phase
-phase_in (PhaseRead.Named p) = p
-phase_in PhaseRead.Unnamed = Phase.Xl0
+abbrev pub phase_in : Option Phase → Phase
+phase_in r = unwrap_or r Phase.Xl0
 
-abbrev pub aip_in : AipRead → Seen
-aip_in (AipRead.Named a) = a
-aip_in AipRead.Unnamed = Seen.Never
+abbrev pub aip_in : Option (Option Wait) → Option Wait
+aip_in r = option_flatten r
 
 -- a frame, if the flag says that one is there
-abbrev pub held_of : ℕ → Open → Held
-held_of there o = cond (eqb there 1) (Held.Frame (frames.frame_of o)) Held.Nothing
+abbrev pub held_of : ℕ → Open → Option OpenFrame
+held_of there o = cond (eqb there 1) (Some (frames.frame_of o)) None
 
-abbrev pub held_number : Held → ℕ
-held_number Held.Nothing = 0
-held_number (Held.Frame f) = 1
+abbrev pub held_number : Option OpenFrame → ℕ
+held_number h = flag (is_some h)
 
-abbrev pub frame_shown : Held → Open
-frame_shown Held.Nothing = frames.clear
-frame_shown (Held.Frame f) = frames.shown f
+abbrev pub frame_shown : Option OpenFrame → Open
+frame_shown None = frames.clear
+frame_shown (Some f) = frames.shown f
 
 -- the state that the numbers say
 abbrev pub state_of : Link → State
@@ -86,16 +81,11 @@ formed l =
     && (eqb l.zero4 0 && (eqb l.zero1 0 && (well_held l.holds l.held && well_held l.hears l.heard)))))))))
 
 -- the actions of a step, number for number
-abbrev pub coded : Actions → Codes
-coded acts = record {
-  first = action_number acts.first;
-  second = action_number acts.second;
-  third = action_number acts.third;
-  fourth = action_number acts.fourth;
-}
+abbrev pub coded : Actions → List Code
+coded acts = map action_number acts
 
-abbrev pub silent : Codes
-silent = record { first = numbered 0 0; second = numbered 0 0; third = numbered 0 0; fourth = numbered 0 0 }
+abbrev pub silent : List Code
+silent = numbered 0 0 ∷ numbered 0 0 ∷ numbered 0 0 ∷ numbered 0 0 ∷ []
 
 -- all zeros
 abbrev pub zeros : Link
@@ -115,9 +105,9 @@ zeros = record {
 }
 
 -- the features and rate of a frame held, as C sees them, are bytes
-abbrev pub NarrowHeld : Held → Type 0
-NarrowHeld Held.Nothing = Unit {0}
-NarrowHeld (Held.Frame f) = frames.Narrow f
+abbrev pub NarrowHeld : Option OpenFrame → Type 0
+NarrowHeld None = Unit {0}
+NarrowHeld (Some f) = frames.Narrow f
 
 pub record Narrow (s : State) : Type 0 where
   pub held : NarrowHeld s.memory.held

@@ -1,11 +1,9 @@
 -- Links a second time, typed: each as C lends it and as the machine has it, so that no two members can stand for each other. Assumes nothing.
-use Rattle.std.specs.Prelude.{true, false}
+use Rattle.std.specs.Prelude.{true, false, None, Some}
 use Rattle.open_lent.specs.Lent.{clear}
 use Rattle.open_lent.specs.Typed.{typed_open, typed_frame}
 use Rattle.xl_parts.specs.declared.Phase.{Phase}
 use Rattle.xl_parts.specs.declared.Wait.{Wait}
-use Rattle.xl_parts.specs.declared.Held.{Held}
-use Rattle.xl_parts.specs.declared.Seen.{Seen}
 use Rattle.xl_parts.specs.declared.State.{State}
 use Rattle.xl_lent.specs.declared.Link.{Link}
 
@@ -30,13 +28,13 @@ abbrev pub typed_state : State
 typed_state = record {
   phase = Phase.Xl6;
   memory = record {
-    held = Held.Frame typed_frame;
-    heard = Held.Frame (record {
+    held = Some typed_frame;
+    heard = Some (record {
       head = record { initiator = 0; protocol = 1; features = 4; rate = 10; tag = 33; destination = 31; source = 32 };
       pbc = record { 0 = 35 };
       awt = record { 0 = 34 };
     });
-    aip = Seen.Latest Wait.Connection;
+    aip = Some Wait.Connection;
     broke = true;
     close = false;
     blocked = false;
@@ -64,7 +62,7 @@ blocked_link = record {
 abbrev pub blocked_state : State
 blocked_state = record {
   phase = Phase.Xl1;
-  memory = record { held = Held.Frame typed_frame; heard = Held.Nothing; aip = Seen.Never; broke = false; close = false; blocked = true };
+  memory = record { held = Some typed_frame; heard = None; aip = None; broke = false; close = false; blocked = true };
   count = 0;
 }
 
@@ -87,6 +85,6 @@ closed_link = record {
 abbrev pub closed_state : State
 closed_state = record {
   phase = Phase.Xl8;
-  memory = record { held = Held.Nothing; heard = Held.Frame typed_frame; aip = Seen.Never; broke = false; close = true; blocked = false };
+  memory = record { held = None; heard = Some typed_frame; aip = None; broke = false; close = true; blocked = false };
   count = 0;
 }

@@ -2,21 +2,20 @@
 #![tactic(auto)]
 
 ghost use Rattle.std.specs.Prelude.{◌≡◌};
-ghost use Rattle.laws.specs.Names as names;
 ghost use Rattle.xl_lent.specs.Lent as lent;
-ghost use Rattle.xl_lent.specs.Lent.{phase_in, aip_in, held_of, state_of, held_number, frame_shown, well_held};
+ghost use Rattle.xl_lent.specs.Lent.{held_of, state_of, frame_shown, well_held};
 ghost use Rattle.xl_lent.specs.Face as face;
 ghost use Rattle.xl_lent.specs.Face.{link_event, link_receive, link_status};
 
-use open_frame::{OpenFrame, OpenRead};
+use open_frame::OpenFrame;
 use open_lent::Open;
 use refusals::Refusal;
-use xl_numbers::codes::{Code, EventRead};
-use xl_numbers::states::{AipRead, PhaseRead};
+use xl_numbers::codes::Code;
 use xl_numbers::{codes, states};
-use xl_parts::{Actions, Answer, Event, Held, Memory, Phase, Primitive, Seen, State, Stepped};
+use xl_parts::{Actions, Event, Memory, Phase, Primitive, State, Stepped, Wait};
 
-// All zeros is XL0 with nothing remembered.
+// All zeros is XL0 with nothing remembered. A frame and whether it is there are two members, as flags and the AIP are numbers: C's own
+// struct, which has no Option.
 #[repr(C)]
 #[derive(Clone, Copy)]
 pub struct Link {
@@ -45,14 +44,7 @@ pub struct Link {
 }
 
 // Four actions in order, C's action[4].
-#[repr(C)]
-#[derive(Clone, Copy)]
-pub struct Codes {
-    pub first: Code,
-    pub second: Code,
-    pub third: Code,
-    pub fourth: Code,
-}
+pub type Codes = [Code; 4];
 
 #[repr(C)]
 #[derive(Clone, Copy)]
@@ -63,101 +55,59 @@ pub struct Step {
     pub answer: u8,
 }
 
-// A number that names no phase stands in for XL0: whoever asks has tested the number.
-fn phase_in(r: PhaseRead) -> Phase
-    ensures { result ≡ phase_in r }
-{
-    match r {
-        PhaseRead::Named(p) => p,
-        PhaseRead::Unnamed => Phase::Xl0,
-    }
-}
-
-fn aip_in(r: AipRead) -> Seen
-    ensures { result ≡ aip_in r }
-{
-    match r {
-        AipRead::Named(a) => a,
-        AipRead::Unnamed => Seen::Never,
-    }
-}
-
-fn held_of(there: u8, o: Open) -> Held
+fn held_of(there: u8, o: Open) -> Option<OpenFrame>
     ensures { result ≡ held_of there o }
 {
-    if there == 1 {
-        return Held::Frame(open_lent::frame_of(o));
-    }
-    Held::Nothing
+    (there == 1).then(|| OpenFrame::from(o))
 }
 
-// The state that the numbers say.
-fn state_of(l: Link) -> State
-    ensures { result ≡ state_of l }
-{
-    let held = l.held;
-    let heard = l.heard;
-    State {
-        phase: phase_in(states::phase_of(l.phase)),
-        memory: Memory {
-            held: held_of(l.holds, held),
-            heard: held_of(l.hears, heard),
-            aip: aip_in(states::aip_of(l.aip)),
-            broke: l.broke == 1,
-            close: l.close == 1,
-            blocked: l.blocked == 1,
-        },
-        count: l.unexpected,
+// The state that the numbers say. A number that names no phase stands in for XL0, and one that names no AIP for none: whoever asks has
+// tested the numbers.
+impl From<Link> for State {
+    ghost from_gives = { λ l s. s ≡ state_of l };
+
+    fn from(l: Link) -> State {
+        State {
+            phase: states::phase_of(l.phase).unwrap_or(Phase::Xl0),
+            memory: Memory {
+                held: held_of(l.holds, l.held),
+                heard: held_of(l.hears, l.heard),
+                aip: states::aip_of(l.aip).flatten(),
+                broke: l.broke == 1,
+                close: l.close == 1,
+                blocked: l.blocked == 1,
+            },
+            count: l.unexpected,
+        }
     }
 }
 
-fn flag(t: bool) -> u8
-    ensures { result ≡ names.flag t }
-{
-    if t { 1 } else { 0 }
-}
-
-// Whether there is a frame.
-fn held_number(h: Held) -> u8
-    ensures { result ≡ held_number h }
-{
-    match h {
-        Held::Nothing => 0,
-        Held::Frame(_) => 1,
-    }
-}
-
-fn frame_shown(h: Held) -> Open
+fn frame_shown(h: Option<OpenFrame>) -> Open
     ensures { result ≡ frame_shown h }
 {
-    match h {
-        Held::Nothing => open_lent::clear(),
-        Held::Frame(f) => open_lent::shown(f),
-    }
+    h.map_or(open_lent::clear(), Open::from)
 }
 
 // A state as C sees it.
-fn shown(s: State) -> Link
-    ensures { result ≡ lent.shown s }
-{
-    let m = s.memory;
-    let phase = s.phase;
-    let held = m.held;
-    let heard = m.heard;
-    let aip = m.aip;
-    Link {
-        held: frame_shown(held),
-        heard: frame_shown(heard),
-        unexpected: s.count,
-        zero4: 0,
-        phase: states::phase_number(phase),
-        holds: held_number(held),
-        hears: held_number(heard),
-        aip: states::aip_number(aip),
-        broke: flag(m.broke),
-        close: flag(m.close),
-        blocked: flag(m.blocked),
-        zero1: 0,
+impl From<State> for Link {
+    ghost from_gives = { λ s l. l ≡ lent.shown s };
+
+    fn from(s: State) -> Link {
+        let m = s.memory;
+        Link {
+            held: frame_shown(m.held),
+            heard: frame_shown(m.heard),
+            unexpected: s.count,
+            zero4: 0,
+            phase: states::phase_number(s.phase),
+            holds: u8::from(m.held.is_some()),
+            hears: u8::from(m.heard.is_some()),
+            aip: states::aip_number(m.aip),
+            broke: u8::from(m.broke),
+            close: u8::from(m.close),
+            blocked: u8::from(m.blocked),
+            zero1: 0,
+        }
     }
 }
 
@@ -176,8 +126,6 @@ fn well_held(there: u8, o: Open) -> bool
 fn formed(l: Link) -> bool
     ensures { result ≡ lent.formed l }
 {
-    let held = l.held;
-    let heard = l.heard;
     (l.phase < 11)
         & ((l.holds < 2)
             & ((l.hears < 2)
@@ -187,35 +135,14 @@ fn formed(l: Link) -> bool
                             & ((l.blocked < 2)
                                 & ((l.zero4 == 0)
                                     & ((l.zero1 == 0)
-                                        & (well_held(l.holds, held)
-                                            & well_held(l.hears, heard))))))))))
+                                        & (well_held(l.holds, l.held)
+                                            & well_held(l.hears, l.heard))))))))))
 }
 
 fn coded(acts: Actions) -> Codes
     ensures { result ≡ lent.coded acts }
 {
-    let first = acts.first;
-    let second = acts.second;
-    let third = acts.third;
-    let fourth = acts.fourth;
-    Codes {
-        first: codes::action_number(first),
-        second: codes::action_number(second),
-        third: codes::action_number(third),
-        fourth: codes::action_number(fourth),
-    }
-}
-
-// No action.
-fn silent() -> Codes
-    ensures { result ≡ lent.silent }
-{
-    Codes {
-        first: Code { kind: 0, detail: 0 },
-        second: Code { kind: 0, detail: 0 },
-        third: Code { kind: 0, detail: 0 },
-        fourth: Code { kind: 0, detail: 0 },
-    }
+    acts.map(codes::action_number)
 }
 
 // The link as it was lent, and no action.
@@ -224,8 +151,8 @@ fn refused(l: Link, k: Refusal) -> Step
 {
     Step {
         state: l,
-        actions: silent(),
-        answer: refusals::number(k),
+        actions: [Code { kind: 0, detail: 0 }; 4],
+        answer: u8::from(k),
     }
 }
 
@@ -233,18 +160,13 @@ fn refused(l: Link, k: Refusal) -> Step
 fn told(l: Link, r: Stepped) -> Step
     ensures { result ≡ face.told l r }
 {
-    let answer = r.answer;
-    match answer {
-        Answer::Done => {
-            let state = r.state;
-            let actions = r.actions;
-            Step {
-                state: shown(state),
-                actions: coded(actions),
-                answer: 0,
-            }
-        }
-        Answer::Refused(k) => refused(l, k),
+    if let Err(k) = r.answer {
+        return refused(l, k);
+    }
+    Step {
+        state: Link::from(r.state),
+        actions: coded(r.actions),
+        answer: 0,
     }
 }
 
@@ -254,7 +176,7 @@ fn met(l: Link, e: Event, f: OpenFrame) -> Step
     ensures { result ≡ face.met l e f }
 {
     if formed(l) {
-        return told(l, xl::step(state_of(l), e, f));
+        return told(l, xl::step(State::from(l), e, f));
     }
     if xl::brings_unlisted(e, f) {
         return refused(l, Refusal::Unlisted);
@@ -267,22 +189,20 @@ fn met(l: Link, e: Event, f: OpenFrame) -> Step
 pub fn link_event(l: Link, c: Code, o: Open) -> Step
     ensures { result ≡ link_event l c o }
 {
-    let read = codes::event_of(c);
-    match read {
-        EventRead::Named(e) => met(l, e, open_lent::frame_of(o)),
-        EventRead::Unnamed => refused(l, Refusal::Unlisted),
-    }
+    let Some(e) = codes::event_of(c) else {
+        return refused(l, Refusal::Unlisted);
+    };
+    met(l, e, OpenFrame::from(o))
 }
 
-// An OPEN received, as bytes.
+// An OPEN received, as bytes. A match, since the refusal is used too.
 #[tactic(auto, unfolding(crate::specs::Face::link_receive))]
 pub fn link_receive(l: Link, bytes: &[u8]) -> Step
     ensures { result ≡ link_receive l bytes.now }
 {
-    let read = open_frame::read_open(bytes);
-    match read {
-        OpenRead::Frame(f) => met(l, Event::Line(Primitive::Open), f),
-        OpenRead::Refused(k) => refused(l, k),
+    match open_frame::read_open(bytes) {
+        Ok(f) => met(l, Event::Line(Primitive::Open), f),
+        Err(k) => refused(l, k),
     }
 }
 
@@ -292,7 +212,7 @@ pub fn link_status(l: Link) -> u8
     ensures { result ≡ link_status l }
 {
     if formed(l) {
-        return states::status_number(xl::status(state_of(l)));
+        return states::status_number(xl::status(State::from(l)));
     }
-    refusals::number(Refusal::Rules)
+    u8::from(Refusal::Rules)
 }

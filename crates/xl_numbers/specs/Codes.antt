@@ -1,6 +1,7 @@
 -- Events and actions as two numbers, a kind and a detail. What the phy receives and transmits has the kinds below 16, what the router carries
 -- those from 16, what the connection manager says and hears those from 32, what the link tells itself those from 48. Assumes nothing.
-use Rattle.std.specs.Prelude.{ℕ, ◌-◌, cond, ◌&&◌, List, [], ◌∷◌, eqb, ltb, get_or}
+use Rattle.std.specs.Prelude.{ℕ, ◌-◌, cond, ◌&&◌, List, [], ◌∷◌, eqb, ltb, get_or, None, Option, Some}
+use Rattle.std.specs.Option.{option_map}
 use Rattle.laws.specs.Names.{flag}
 use Rattle.xl_parts.specs.declared.Primitive.{Primitive}
 use Rattle.xl_parts.specs.declared.Message.{Message}
@@ -12,8 +13,6 @@ use Rattle.xl_parts.specs.declared.Event.{Event}
 use Rattle.xl_parts.specs.declared.Event.TheVariants.{Line, Router, Manager, Own, Break, Disable}
 use Rattle.xl_parts.specs.declared.Action.{Action}
 use Rattle.xl_numbers.specs.declared.codes.Code.{Code}
-use Rattle.xl_numbers.specs.declared.codes.EventRead.{EventRead}
-use Rattle.xl_numbers.specs.declared.codes.ActionRead.{ActionRead}
 use Rattle.xl_numbers.specs.Details.{wait_number, wait_of, reject_number, reject_of, denial_number, denial_of, arbitration_number, arbitration_of}
 
 abbrev pub coded : ℕ → ℕ → Code
@@ -61,13 +60,13 @@ event_number (Break b) = break_number b
 event_number Disable = coded 63 0
 
 -- the event e, where its kind has so many details
-abbrev pub up_to : ℕ → ℕ → Event → EventRead
-up_to details detail e = cond (ltb detail details) (EventRead.Named e) EventRead.Unnamed
+abbrev pub up_to : ℕ → ℕ → Event → Option Event
+up_to details detail e = cond (ltb detail details) (Some e) None
 
 -- the events of each group with the detail d, in the order of their kinds
-abbrev pub line_events : ℕ → List EventRead
+abbrev pub line_events : ℕ → List (Option Event)
 line_events d =
-    EventRead.Unnamed
+    None
     ∷ up_to 1 d (Line Primitive.Open)
     ∷ up_to 1 d (Line Primitive.OpenAccept)
     ∷ up_to 8 d (Line (Primitive.OpenReject (reject_of d)))
@@ -76,7 +75,7 @@ line_events d =
     ∷ up_to 1 d (Break BreakEvent.Received)
     ∷ []
 
-abbrev pub router_events : ℕ → List EventRead
+abbrev pub router_events : ℕ → List (Option Event)
 router_events d =
     up_to 1 d (Router Message.SendOpen)
     ∷ up_to 1 d (Router Message.SendClose)
@@ -88,7 +87,7 @@ router_events d =
     ∷ up_to 1 d (Router Message.BackoffReversePath)
     ∷ []
 
-abbrev pub manager_events : ℕ → List EventRead
+abbrev pub manager_events : ℕ → List (Option Event)
 manager_events d =
     up_to 1 d (Manager Confirmation.ArbWon)
     ∷ up_to 1 d (Manager Confirmation.ArbLost)
@@ -96,27 +95,27 @@ manager_events d =
     ∷ up_to 3 d (Manager (Confirmation.Arbitrating (arbitration_of d)))
     ∷ []
 
-abbrev pub own_events : ℕ → List EventRead
+abbrev pub own_events : ℕ → List (Option Event)
 own_events d =
     up_to 1 d (Own Notice.PathTimer) ∷ up_to 1 d (Own Notice.Sent) ∷ up_to 1 d (Own Notice.Forwarded) ∷ up_to 1 d (Break BreakEvent.Timeout) ∷ []
 
 -- the event of a kind, counted from its group's first
-abbrev pub from_line : ℕ → ℕ → EventRead
-from_line kind detail = get_or (line_events detail) kind EventRead.Unnamed
+abbrev pub from_line : ℕ → ℕ → Option Event
+from_line kind detail = get_or (line_events detail) kind None
 
-abbrev pub from_router : ℕ → ℕ → EventRead
-from_router kind detail = get_or (router_events detail) kind EventRead.Unnamed
+abbrev pub from_router : ℕ → ℕ → Option Event
+from_router kind detail = get_or (router_events detail) kind None
 
-abbrev pub from_manager : ℕ → ℕ → EventRead
-from_manager kind detail = get_or (manager_events detail) kind EventRead.Unnamed
+abbrev pub from_manager : ℕ → ℕ → Option Event
+from_manager kind detail = get_or (manager_events detail) kind None
 
-abbrev pub own : ℕ → ℕ → EventRead
-own kind detail = get_or (own_events detail) kind EventRead.Unnamed
+abbrev pub own : ℕ → ℕ → Option Event
+own kind detail = get_or (own_events detail) kind None
 
 -- 01 REFUSAL.2
 -- an event is an enum, so that a link meets none but those listed; of two numbers that name none this says so, and whoever is given
 -- numbers refuses them. What a state doesn't list is another thing: it is counted (XL.2)
-unfoldable pub event_of : Code → EventRead
+unfoldable pub event_of : Code → Option Event
 event_of c =
     cond (ltb c.kind 16)
     (from_line c.kind c.detail)
@@ -129,30 +128,31 @@ event_of c =
     (own (c.kind - 48) c.detail))))
 
 -- what a link has said when another hears the event
-abbrev pub said : Event → ActionRead
-said (Line p) = ActionRead.Named (Action.Transmit p)
-said (Router m) = ActionRead.Named (Action.Send m)
-said (Manager c) = ActionRead.Unnamed
-said (Own n) = ActionRead.Unnamed
-said (Break BreakEvent.Received) = ActionRead.Named (Action.Break BreakAction.Transmit)
-said (Break BreakEvent.Routed) = ActionRead.Named (Action.Break BreakAction.Send)
-said (Break BreakEvent.Timeout) = ActionRead.Unnamed
-said Disable = ActionRead.Unnamed
+abbrev pub said : Event → Option Action
+said (Line p) = Some (Action.Transmit p)
+said (Router m) = Some (Action.Send m)
+said (Manager c) = None
+said (Own n) = None
+said (Break BreakEvent.Received) = Some (Action.Break BreakAction.Transmit)
+said (Break BreakEvent.Routed) = Some (Action.Break BreakAction.Send)
+said (Break BreakEvent.Timeout) = None
+said Disable = None
 
-abbrev pub action_number : Action → Code
-action_number Action.None = coded 0 0
-action_number (Action.Transmit p) = primitive_number p
-action_number (Action.Send m) = message_number m
-action_number (Action.RequestPath t) = coded 40 (flag t)
-action_number (Action.Break BreakAction.Transmit) = break_number BreakEvent.Received
-action_number (Action.Break BreakAction.Send) = break_number BreakEvent.Routed
+-- 0 is no action
+abbrev pub action_number : Option Action → Code
+action_number None = coded 0 0
+action_number (Some (Action.Transmit p)) = primitive_number p
+action_number (Some (Action.Send m)) = message_number m
+action_number (Some (Action.RequestPath t)) = coded 40 (flag t)
+action_number (Some (Action.Break BreakAction.Transmit)) = break_number BreakEvent.Received
+action_number (Some (Action.Break BreakAction.Send)) = break_number BreakEvent.Routed
 
-abbrev pub heard : EventRead → ActionRead
-heard (EventRead.Named e) = said e
-heard EventRead.Unnamed = ActionRead.Unnamed
+abbrev pub heard : Option Event → Option (Option Action)
+heard (Some e) = option_map Some (said e)
+heard None = None
 
-unfoldable pub action_of : Code → ActionRead
+unfoldable pub action_of : Code → Option (Option Action)
 action_of c =
     cond (eqb c.kind 0 && eqb c.detail 0)
-    (ActionRead.Named Action.None)
-    (cond (eqb c.kind 40 && ltb c.detail 2) (ActionRead.Named (Action.RequestPath (eqb c.detail 1))) (heard (event_of c)))
+    (Some None)
+    (cond (eqb c.kind 40 && ltb c.detail 2) (Some (Some (Action.RequestPath (eqb c.detail 1)))) (heard (event_of c)))

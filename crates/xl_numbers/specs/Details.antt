@@ -1,12 +1,16 @@
 -- The kinds within an event or an action, in document 01's order from 0 on. Past the last number the last kind stands in, and nobody asks.
 -- Assumes nothing.
-use Rattle.std.specs.Prelude.{ℕ, List, [], ◌∷◌, get_or}
+use Rattle.std.specs.Prelude.{ℕ, List, [], ◌∷◌, cond, ltb, get_or, None, Option, Some}
 use Rattle.xl_parts.specs.declared.Wait.{Wait}
 use Rattle.xl_parts.specs.declared.Wait.TheVariants.{Normal, Partial, Connection, Device}
 use Rattle.xl_parts.specs.declared.Reject.{Reject}
 use Rattle.xl_parts.specs.declared.Denial.{Denial}
 use Rattle.xl_parts.specs.declared.Arbitration.{Arbitration}
 use Rattle.xl_parts.specs.declared.Arbitration.TheVariants.{WaitingOnPartial, BlockedOnPartial, WaitingOnConnection}
+
+-- the kind k with the number n, where there are so many kinds
+abbrev pub named : {K : Type 0} → ℕ → ℕ → K → Option K
+named count n k = cond (ltb n count) (Some k) None
 
 abbrev pub wait_number : Wait → ℕ
 wait_number Normal = 0

@@ -1,6 +1,7 @@
 -- The numbers of the link a second time, typed: each kind beside its event, with the first of its details, and the details in document
 -- 01's order. Assumes nothing.
-use Rattle.std.specs.Prelude.{true, false, List, [], ◌∷◌}
+use Rattle.refusals.specs.declared.Refusal.{Refusal}
+use Rattle.std.specs.Prelude.{true, false, List, [], ◌∷◌, None, Ok, Option, Result, Some}
 use Rattle.xl_parts.specs.declared.Phase.{Phase}
 use Rattle.xl_parts.specs.declared.Wait.{Wait}
 use Rattle.xl_parts.specs.declared.Reject.{Reject}
@@ -14,7 +15,6 @@ use Rattle.xl_parts.specs.declared.BreakEvent.{BreakEvent}
 use Rattle.xl_parts.specs.declared.Event.{Event}
 use Rattle.xl_parts.specs.declared.Event.TheVariants.{Line, Router, Manager, Own, Break, Disable}
 use Rattle.xl_parts.specs.declared.Action.{Action}
-use Rattle.xl_parts.specs.declared.Seen.{Seen}
 use Rattle.xl_parts.specs.declared.LinkStatus.{LinkStatus}
 use Rattle.xl_numbers.specs.declared.codes.Code.{Code}
 use Rattle.xl_numbers.specs.Codes.{coded}
@@ -40,8 +40,8 @@ typed_codes =
     ∷ coded 63 0 ∷ []
 
 -- what is an action only
-abbrev pub typed_actions : List Action
-typed_actions = Action.None ∷ Action.RequestPath false ∷ Action.RequestPath true ∷ []
+abbrev pub typed_actions : List (Option Action)
+typed_actions = None ∷ Some (Action.RequestPath false) ∷ Some (Action.RequestPath true) ∷ []
 
 abbrev pub typed_action_codes : List Code
 typed_action_codes = coded 0 0 ∷ coded 40 0 ∷ coded 40 1 ∷ []
@@ -66,9 +66,9 @@ abbrev pub typed_phases : List Phase
 typed_phases =
     Phase.Xl0 ∷ Phase.Xl1 ∷ Phase.Xl2 ∷ Phase.Xl3 ∷ Phase.Xl4 ∷ Phase.Xl5 ∷ Phase.Xl6 ∷ Phase.Xl7 ∷ Phase.Xl8 ∷ Phase.Xl9 ∷ Phase.Xl10 ∷ []
 
-abbrev pub typed_aips : List Seen
+abbrev pub typed_aips : List (Option Wait)
 typed_aips =
-    Seen.Never ∷ Seen.Latest Wait.Normal ∷ Seen.Latest Wait.Partial ∷ Seen.Latest Wait.Connection ∷ Seen.Latest Wait.Device ∷ []
+    None ∷ Some Wait.Normal ∷ Some Wait.Partial ∷ Some Wait.Connection ∷ Some Wait.Device ∷ []
 
-abbrev pub typed_statuses : List LinkStatus
-typed_statuses = LinkStatus.Ready ∷ LinkStatus.Partial ∷ LinkStatus.BlockedPartial ∷ LinkStatus.Connected ∷ []
+abbrev pub typed_statuses : List (Result LinkStatus Refusal)
+typed_statuses = (Ok LinkStatus.Ready) ∷ (Ok LinkStatus.Partial) ∷ (Ok LinkStatus.BlockedPartial) ∷ (Ok LinkStatus.Connected) ∷ []

@@ -1,100 +1,58 @@
-// The kinds within an event or an action, in document 01's order from 0 on. Past the last number the last kind stands in: whoever
-// asks has tested the number.
+// The kinds within an event or an action, by their numbers: document 01's order from 0 on, so that a kind's own number is `k as u8`.
+// TryFrom would have to stand in crate xl_parts, where the kinds are declared, and the table of numbers stands above it. Four functions
+// and no trait's: each has a table of its own, whatever it is called by.
 ghost use Rattle.std.specs.Prelude.{◌≡◌};
-ghost use Rattle.xl_numbers.specs.Details.{wait_number, wait_of, reject_number, reject_of, denial_number, denial_of, arbitration_number, arbitration_of};
+ghost use Rattle.xl_numbers.specs.Details.{named, wait_of, reject_of, denial_of, arbitration_of};
 
 use xl_parts::{Arbitration, Denial, Reject, Wait};
 
-pub(crate) fn wait_number(w: Wait) -> u8
-    ensures { result ≡ wait_number w }
-{
-    match w {
-        Wait::Normal => 0,
-        Wait::Partial => 1,
-        Wait::Connection => 2,
-        Wait::Device => 3,
-    }
-}
-
-pub(crate) fn wait_of(n: u8) -> Wait
-    ensures { result ≡ wait_of n }
+pub(crate) fn wait_of(n: u8) -> Option<Wait>
+    ensures { result ≡ named 4 n (wait_of n) }
 {
     match n {
-        0 => Wait::Normal,
-        1 => Wait::Partial,
-        2 => Wait::Connection,
-        _ => Wait::Device,
+        0 => Some(Wait::Normal),
+        1 => Some(Wait::Partial),
+        2 => Some(Wait::Connection),
+        3 => Some(Wait::Device),
+        _ => None,
     }
 }
 
-pub(crate) fn reject_number(k: Reject) -> u8
-    ensures { result ≡ reject_number k }
-{
-    match k {
-        Reject::NoDestination => 0,
-        Reject::BadDestination => 1,
-        Reject::WrongDestination => 2,
-        Reject::Rate => 3,
-        Reject::Protocol => 4,
-        Reject::PathwayBlocked => 5,
-        Reject::Busy => 6,
-        Reject::Retry => 7,
-    }
-}
-
-pub(crate) fn reject_of(n: u8) -> Reject
-    ensures { result ≡ reject_of n }
+pub(crate) fn reject_of(n: u8) -> Option<Reject>
+    ensures { result ≡ named 8 n (reject_of n) }
 {
     match n {
-        0 => Reject::NoDestination,
-        1 => Reject::BadDestination,
-        2 => Reject::WrongDestination,
-        3 => Reject::Rate,
-        4 => Reject::Protocol,
-        5 => Reject::PathwayBlocked,
-        6 => Reject::Busy,
-        _ => Reject::Retry,
+        0 => Some(Reject::NoDestination),
+        1 => Some(Reject::BadDestination),
+        2 => Some(Reject::WrongDestination),
+        3 => Some(Reject::Rate),
+        4 => Some(Reject::Protocol),
+        5 => Some(Reject::PathwayBlocked),
+        6 => Some(Reject::Busy),
+        7 => Some(Reject::Retry),
+        _ => None,
     }
 }
 
-pub(crate) fn denial_number(d: Denial) -> u8
-    ensures { result ≡ denial_number d }
-{
-    match d {
-        Denial::NoDestination => 0,
-        Denial::BadDestination => 1,
-        Denial::BadLinkRate => 2,
-        Denial::PathwayBlocked => 3,
-    }
-}
-
-pub(crate) fn denial_of(n: u8) -> Denial
-    ensures { result ≡ denial_of n }
+pub(crate) fn denial_of(n: u8) -> Option<Denial>
+    ensures { result ≡ named 4 n (denial_of n) }
 {
     match n {
-        0 => Denial::NoDestination,
-        1 => Denial::BadDestination,
-        2 => Denial::BadLinkRate,
-        _ => Denial::PathwayBlocked,
+        0 => Some(Denial::NoDestination),
+        1 => Some(Denial::BadDestination),
+        2 => Some(Denial::BadLinkRate),
+        3 => Some(Denial::PathwayBlocked),
+        _ => None,
     }
 }
 
-pub(crate) fn arbitration_number(a: Arbitration) -> u8
-    ensures { result ≡ arbitration_number a }
-{
-    match a {
-        Arbitration::WaitingOnPartial => 0,
-        Arbitration::BlockedOnPartial => 1,
-        Arbitration::WaitingOnConnection => 2,
-    }
-}
-
-pub(crate) fn arbitration_of(n: u8) -> Arbitration
-    ensures { result ≡ arbitration_of n }
+pub(crate) fn arbitration_of(n: u8) -> Option<Arbitration>
+    ensures { result ≡ named 3 n (arbitration_of n) }
 {
     match n {
-        0 => Arbitration::WaitingOnPartial,
-        1 => Arbitration::BlockedOnPartial,
-        _ => Arbitration::WaitingOnConnection,
+        0 => Some(Arbitration::WaitingOnPartial),
+        1 => Some(Arbitration::BlockedOnPartial),
+        2 => Some(Arbitration::WaitingOnConnection),
+        _ => None,
     }
 }

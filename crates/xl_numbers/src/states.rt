@@ -1,58 +1,35 @@
 // What a link's state has besides frames, flags and the count, and its status. A number that names nothing is told from one that does.
+// Functions and no From or TryFrom: both types of each are other crates', and an impl stands with one of them.
 ghost use Rattle.std.specs.Prelude.{◌≡◌};
 ghost use Rattle.xl_parts.specs.Parts.{phase_number};
 ghost use Rattle.xl_numbers.specs.States.{phase_of, aip_number, aip_of, status_number};
 
-use crate::details;
+use refusals::Refusal;
 use xl_parts::{LinkStatus, Phase, Seen, Wait};
-
-#[derive(Clone, Copy)]
-pub enum PhaseRead {
-    Named(Phase),
-    Unnamed,
-}
-
-#[derive(Clone, Copy)]
-pub enum AipRead {
-    Named(Seen),
-    Unnamed,
-}
 
 // 0 for XL0 to 10 for XL10.
 pub fn phase_number(p: Phase) -> u8
     ensures { result ≡ phase_number p }
 {
-    match p {
-        Phase::Xl0 => 0,
-        Phase::Xl1 => 1,
-        Phase::Xl2 => 2,
-        Phase::Xl3 => 3,
-        Phase::Xl4 => 4,
-        Phase::Xl5 => 5,
-        Phase::Xl6 => 6,
-        Phase::Xl7 => 7,
-        Phase::Xl8 => 8,
-        Phase::Xl9 => 9,
-        Phase::Xl10 => 10,
-    }
+    p as u8
 }
 
-pub fn phase_of(n: u8) -> PhaseRead
+pub fn phase_of(n: u8) -> Option<Phase>
     ensures { result ≡ phase_of n }
 {
     match n {
-        0 => PhaseRead::Named(Phase::Xl0),
-        1 => PhaseRead::Named(Phase::Xl1),
-        2 => PhaseRead::Named(Phase::Xl2),
-        3 => PhaseRead::Named(Phase::Xl3),
-        4 => PhaseRead::Named(Phase::Xl4),
-        5 => PhaseRead::Named(Phase::Xl5),
-        6 => PhaseRead::Named(Phase::Xl6),
-        7 => PhaseRead::Named(Phase::Xl7),
-        8 => PhaseRead::Named(Phase::Xl8),
-        9 => PhaseRead::Named(Phase::Xl9),
-        10 => PhaseRead::Named(Phase::Xl10),
-        _ => PhaseRead::Unnamed,
+        0 => Some(Phase::Xl0),
+        1 => Some(Phase::Xl1),
+        2 => Some(Phase::Xl2),
+        3 => Some(Phase::Xl3),
+        4 => Some(Phase::Xl4),
+        5 => Some(Phase::Xl5),
+        6 => Some(Phase::Xl6),
+        7 => Some(Phase::Xl7),
+        8 => Some(Phase::Xl8),
+        9 => Some(Phase::Xl9),
+        10 => Some(Phase::Xl10),
+        _ => None,
     }
 }
 
@@ -61,33 +38,34 @@ pub fn aip_number(a: Seen) -> u8
     ensures { result ≡ aip_number a }
 {
     match a {
-        Seen::Never => 0,
-        Seen::Latest(w) => 1 + details::wait_number(w),
+        None => 0,
+        Some(w) => 1 + w as u8,
     }
 }
 
-pub fn aip_of(n: u8) -> AipRead
+// The kinds stand here once more, as the definition lists them behind none.
+pub fn aip_of(n: u8) -> Option<Seen>
     ensures { result ≡ aip_of n }
 {
     match n {
-        0 => AipRead::Named(Seen::Never),
-        1 => AipRead::Named(Seen::Latest(Wait::Normal)),
-        2 => AipRead::Named(Seen::Latest(Wait::Partial)),
-        3 => AipRead::Named(Seen::Latest(Wait::Connection)),
-        4 => AipRead::Named(Seen::Latest(Wait::Device)),
-        _ => AipRead::Unnamed,
+        0 => Some(None),
+        1 => Some(Some(Wait::Normal)),
+        2 => Some(Some(Wait::Partial)),
+        3 => Some(Some(Wait::Connection)),
+        4 => Some(Some(Wait::Device)),
+        _ => None,
     }
 }
 
 // 48 to 51; a refused state's is the refusal's own number.
-pub fn status_number(a: LinkStatus) -> u8
+pub fn status_number(a: Result<LinkStatus, Refusal>) -> u8
     ensures { result ≡ status_number a }
 {
     match a {
-        LinkStatus::Ready => 48,
-        LinkStatus::Partial => 49,
-        LinkStatus::BlockedPartial => 50,
-        LinkStatus::Connected => 51,
-        LinkStatus::Refused(k) => refusals::number(k),
+        Ok(LinkStatus::Ready) => 48,
+        Ok(LinkStatus::Partial) => 49,
+        Ok(LinkStatus::BlockedPartial) => 50,
+        Ok(LinkStatus::Connected) => 51,
+        Err(k) => u8::from(k),
     }
 }

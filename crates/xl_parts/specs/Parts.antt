@@ -1,5 +1,5 @@
 -- Document 01, 'XL': what a link remembers, what entering a state clears and does, and the form of a row's effect. Assumes nothing.
-use Rattle.std.specs.Prelude.{ℕ, Bool, true, false, List, [], ◌∷◌, ◌++◌}
+use Rattle.std.specs.Prelude.{ℕ, Bool, true, false, List, [], ◌∷◌, ◌++◌, get_or, None, Ok, Option, Some}
 use Rattle.open_frame.specs.declared.OpenFrame.{OpenFrame}
 use Rattle.xl_parts.specs.declared.Phase.{Phase}
 use Rattle.xl_parts.specs.declared.Wait.{Wait}
@@ -7,12 +7,8 @@ use Rattle.xl_parts.specs.declared.Primitive.{Primitive}
 use Rattle.xl_parts.specs.declared.Message.{Message}
 use Rattle.xl_parts.specs.declared.BreakAction.{BreakAction}
 use Rattle.xl_parts.specs.declared.Action.{Action}
-use Rattle.xl_parts.specs.declared.Actions.{Actions}
-use Rattle.xl_parts.specs.declared.Held.{Held}
-use Rattle.xl_parts.specs.declared.Seen.{Seen}
 use Rattle.xl_parts.specs.declared.Memory.{Memory}
 use Rattle.xl_parts.specs.declared.State.{State}
-use Rattle.xl_parts.specs.declared.Answer.{Answer}
 use Rattle.xl_parts.specs.declared.Stepped.{Stepped}
 
 -- 01 XL.4
@@ -31,7 +27,7 @@ phase_number Phase.Xl9 = 9
 phase_number Phase.Xl10 = 10
 
 abbrev pub nothing : Memory
-nothing = record { held = Held.Nothing; heard = Held.Nothing; aip = Seen.Never; broke = false; close = false; blocked = false }
+nothing = record { held = None; heard = None; aip = None; broke = false; close = false; blocked = false }
 
 -- XL0 with nothing remembered and nothing counted
 abbrev pub ready : State
@@ -39,13 +35,13 @@ ready = record { phase = Phase.Xl0; memory = nothing; count = 0 }
 
 -- a memory with one thing put in
 abbrev pub holds : OpenFrame → Memory → Memory
-holds f m = record { held = Held.Frame f; heard = m.heard; aip = m.aip; broke = m.broke; close = m.close; blocked = m.blocked }
+holds f m = record { held = Some f; heard = m.heard; aip = m.aip; broke = m.broke; close = m.close; blocked = m.blocked }
 
 abbrev pub hears : OpenFrame → Memory → Memory
-hears f m = record { held = m.held; heard = Held.Frame f; aip = m.aip; broke = m.broke; close = m.close; blocked = m.blocked }
+hears f m = record { held = m.held; heard = Some f; aip = m.aip; broke = m.broke; close = m.close; blocked = m.blocked }
 
 abbrev pub sees : Wait → Memory → Memory
-sees k m = record { held = m.held; heard = m.heard; aip = Seen.Latest k; broke = m.broke; close = m.close; blocked = m.blocked }
+sees k m = record { held = m.held; heard = m.heard; aip = Some k; broke = m.broke; close = m.close; blocked = m.blocked }
 
 abbrev pub breaks : Memory → Memory
 breaks m = record { held = m.held; heard = m.heard; aip = m.aip; broke = true; close = m.close; blocked = m.blocked }
@@ -58,7 +54,7 @@ blocks b m = record { held = m.held; heard = m.heard; aip = m.aip; broke = m.bro
 
 -- a memory with BREAK and OPEN forgotten
 abbrev pub forgets : Memory → Memory
-forgets m = record { held = m.held; heard = Held.Nothing; aip = m.aip; broke = false; close = m.close; blocked = m.blocked }
+forgets m = record { held = m.held; heard = None; aip = m.aip; broke = false; close = m.close; blocked = m.blocked }
 
 -- s with its memory changed
 abbrev pub remembering : (Memory → Memory) → State → State
@@ -87,11 +83,11 @@ blocking b s = remembering (blocks b) s
 -- a stay in XL1 begins with no Arbitrating
 abbrev pub cleared : Phase → Memory → Memory
 cleared Phase.Xl0 m = nothing
-cleared Phase.Xl1 m = record { held = m.held; heard = m.heard; aip = Seen.Never; broke = false; close = m.close; blocked = false }
-cleared Phase.Xl2 m = record { held = m.held; heard = m.heard; aip = Seen.Never; broke = false; close = m.close; blocked = m.blocked }
+cleared Phase.Xl1 m = record { held = m.held; heard = m.heard; aip = None; broke = false; close = m.close; blocked = false }
+cleared Phase.Xl2 m = record { held = m.held; heard = m.heard; aip = None; broke = false; close = m.close; blocked = m.blocked }
 cleared Phase.Xl3 m = m
 cleared Phase.Xl4 m = m
-cleared Phase.Xl5 m = record { held = m.held; heard = Held.Nothing; aip = Seen.Never; broke = false; close = m.close; blocked = m.blocked }
+cleared Phase.Xl5 m = record { held = m.held; heard = None; aip = None; broke = false; close = m.close; blocked = m.blocked }
 cleared Phase.Xl6 m = m
 cleared Phase.Xl7 m = m
 cleared Phase.Xl8 m = m
@@ -133,24 +129,28 @@ to p acts s = record { state = entered p s; actions = acts ++ on_entry p }
 abbrev pub first : List Action → Effect → Effect
 first acts e = record { state = e.state; actions = acts ++ e.actions }
 
-abbrev pub four : Action → Action → Action → Action → Actions
-four a b c d = record { first = a; second = b; third = c; fourth = d }
+-- the four places of what a step answers
+abbrev pub Actions : Type 0
+Actions = List (Option Action)
+
+abbrev pub four : Option Action → Option Action → Option Action → Option Action → Actions
+four a b c d = a ∷ b ∷ c ∷ d ∷ []
 
 -- 01 XL.1
 -- no row has a fifth
 abbrev pub packed : List Action → Actions
-packed [] = four Action.None Action.None Action.None Action.None
-packed (a ∷ []) = four a Action.None Action.None Action.None
-packed (a ∷ b ∷ []) = four a b Action.None Action.None
-packed (a ∷ b ∷ c ∷ []) = four a b c Action.None
-packed (a ∷ b ∷ c ∷ d ∷ more) = four a b c d
+packed [] = four None None None None
+packed (a ∷ []) = four (Some a) None None None
+packed (a ∷ b ∷ []) = four (Some a) (Some b) None None
+packed (a ∷ b ∷ c ∷ []) = four (Some a) (Some b) (Some c) None
+packed (a ∷ b ∷ c ∷ d ∷ more) = four (Some a) (Some b) (Some c) (Some d)
 
 -- one action ahead of the others
-abbrev pub pushed : Action → Actions → Actions
-pushed a acts = four a acts.first acts.second acts.third
+abbrev pub pushed : Option Action → Actions → Actions
+pushed a acts = four a (get_or acts 0 None) (get_or acts 1 None) (get_or acts 2 None)
 
-abbrev pub ahead : Action → Stepped → Stepped
+abbrev pub ahead : Option Action → Stepped → Stepped
 ahead a r = record { answer = r.answer; state = r.state; actions = pushed a r.actions }
 
 abbrev pub done : Effect → Stepped
-done e = record { answer = Answer.Done; state = e.state; actions = packed e.actions }
+done e = record { answer = Ok tt; state = e.state; actions = packed e.actions }

@@ -1,7 +1,7 @@
 // Document 01, 'XL': what an expander link hears, does and remembers, and how it enters a state.
 #![tactic(auto)]
 
-ghost use Rattle.std.specs.Prelude.{◌≡◌, [], ◌∷◌};
+ghost use Rattle.std.specs.Prelude.{◌≡◌, []};
 ghost use Rattle.xl_parts.specs.Parts as parts;
 ghost use Rattle.xl_parts.specs.Parts.{on_entry, packed, done};
 
@@ -9,9 +9,10 @@ use open_frame::OpenFrame;
 use refusals::Refusal;
 
 // 01 XL.4
-#[derive(Clone, Copy)]
+#[derive(Clone, Copy, PartialEq, Eq, Default)]
 pub enum Phase {
     // Idle.
+    #[default]
     Xl0,
     // Requests a path.
     Xl1,
@@ -160,7 +161,6 @@ pub enum BreakAction {
 // What a link does. The frame of an OPEN, a SendOpen, a BackoffReversePath or a RequestPath is the one that the new state holds.
 #[derive(Clone, Copy)]
 pub enum Action {
-    None,
     // By the phy.
     Transmit(Primitive),
     // To the router.
@@ -170,34 +170,18 @@ pub enum Action {
     Break(BreakAction),
 }
 
-// 01 XL.1: A step answers the new state and at most four actions, in order.
-// None stands behind every other.
-#[derive(Clone, Copy)]
-pub struct Actions {
-    pub first: Action,
-    pub second: Action,
-    pub third: Action,
-    pub fourth: Action,
-}
+// In order. None stands behind every other.
+pub type Actions = [Option<Action>; 4];
 
-#[derive(Clone, Copy)]
-pub enum Held {
-    Nothing,
-    Frame(OpenFrame),
-}
+// The latest AIP or ArbStatus, if one came.
+pub type Seen = Option<Wait>;
 
-#[derive(Clone, Copy)]
-pub enum Seen {
-    Never,
-    Latest(Wait),
-}
-
-#[derive(Clone, Copy)]
+#[derive(Clone, Copy, Default)]
 pub struct Memory {
     // The frame that the link works for: received or transmitted.
-    pub held: Held,
+    pub held: Option<OpenFrame>,
     // The latest OPEN received in XL5.
-    pub heard: Held,
+    pub heard: Option<OpenFrame>,
     // The latest AIP or ArbStatus.
     pub aip: Seen,
     // Whether BREAK was received.
@@ -208,7 +192,7 @@ pub struct Memory {
     pub blocked: bool,
 }
 
-#[derive(Clone, Copy)]
+#[derive(Clone, Copy, Default)]
 pub struct State {
     pub phase: Phase,
     pub memory: Memory,
@@ -216,15 +200,10 @@ pub struct State {
     pub count: u32,
 }
 
-#[derive(Clone, Copy)]
-pub enum Answer {
-    Done,
-    Refused(Refusal),
-}
-
+// 01 XL.1: A step answers the new state and at most four actions, in order.
 #[derive(Clone, Copy)]
 pub struct Stepped {
-    pub answer: Answer,
+    pub answer: Result<(), Refusal>,
     pub state: State,
     pub actions: Actions,
 }
@@ -236,63 +215,36 @@ pub enum LinkStatus {
     Connected,
     BlockedPartial,
     Partial,
-    Refused(Refusal),
-}
-
-fn nothing() -> Memory
-    ensures { result ≡ parts.nothing }
-{
-    Memory {
-        held: Held::Nothing,
-        heard: Held::Nothing,
-        aip: Seen::Never,
-        broke: false,
-        close: false,
-        blocked: false,
-    }
 }
 
 // XL0 with nothing remembered and nothing counted.
 pub fn ready() -> State
     ensures { result ≡ parts.ready }
 {
-    State {
-        phase: Phase::Xl0,
-        memory: nothing(),
-        count: 0,
-    }
+    State::default()
 }
 
 fn cleared(m: Memory, p: Phase) -> Memory
     ensures { result ≡ parts.cleared p m }
 {
-    let held = m.held;
-    let heard = m.heard;
     match p {
-        Phase::Xl0 => nothing(),
+        Phase::Xl0 => Memory::default(),
         Phase::Xl1 => Memory {
-            held,
-            heard,
-            aip: Seen::Never,
+            aip: None,
             broke: false,
-            close: m.close,
             blocked: false,
+            ..m
         },
         Phase::Xl2 => Memory {
-            held,
-            heard,
-            aip: Seen::Never,
+            aip: None,
             broke: false,
-            close: m.close,
-            blocked: m.blocked,
+            ..m
         },
         Phase::Xl5 => Memory {
-            held,
-            heard: Held::Nothing,
-            aip: Seen::Never,
+            heard: None,
+            aip: None,
             broke: false,
-            close: m.close,
-            blocked: m.blocked,
+            ..m
         },
         _ => m,
     }
@@ -301,44 +253,10 @@ fn cleared(m: Memory, p: Phase) -> Memory
 fn entered(s: State, p: Phase) -> State
     ensures { result ≡ parts.entered p s }
 {
-    let memory = s.memory;
     State {
         phase: p,
-        memory: cleared(memory, p),
-        count: s.count,
-    }
-}
-
-fn none() -> Actions
-    ensures { result ≡ packed [] }
-{
-    Actions {
-        first: Action::None,
-        second: Action::None,
-        third: Action::None,
-        fourth: Action::None,
-    }
-}
-
-fn one(a: Action) -> Actions
-    ensures { result ≡ packed (a ∷ []) }
-{
-    Actions {
-        first: a,
-        second: Action::None,
-        third: Action::None,
-        fourth: Action::None,
-    }
-}
-
-fn two(a: Action, b: Action) -> Actions
-    ensures { result ≡ packed (a ∷ b ∷ []) }
-{
-    Actions {
-        first: a,
-        second: b,
-        third: Action::None,
-        fourth: Action::None,
+        memory: cleared(s.memory, p),
+        ..s
     }
 }
 
@@ -347,14 +265,20 @@ fn on_entry(p: Phase) -> Actions
     ensures { result ≡ packed (on_entry p) }
 {
     match p {
-        Phase::Xl1 => two(
-            Action::RequestPath(false),
-            Action::Transmit(Primitive::Aip(Wait::Normal)),
-        ),
-        Phase::Xl6 => one(Action::Send(Message::ArbStatus(Wait::Device))),
-        Phase::Xl9 => one(Action::Break(BreakAction::Transmit)),
-        Phase::Xl10 => one(Action::Break(BreakAction::Transmit)),
-        _ => none(),
+        Phase::Xl1 => [
+            Some(Action::RequestPath(false)),
+            Some(Action::Transmit(Primitive::Aip(Wait::Normal))),
+            None,
+            None,
+        ],
+        Phase::Xl6 => [
+            Some(Action::Send(Message::ArbStatus(Wait::Device))),
+            None,
+            None,
+            None,
+        ],
+        Phase::Xl9 | Phase::Xl10 => [Some(Action::Break(BreakAction::Transmit)), None, None, None],
+        _ => [None; 4],
     }
 }
 
@@ -363,9 +287,9 @@ pub fn stay(s: State) -> Stepped
     ensures { result ≡ done (parts.stay [] s) }
 {
     Stepped {
-        answer: Answer::Done,
+        answer: Ok(()),
         state: s,
-        actions: none(),
+        actions: [None; 4],
     }
 }
 
@@ -374,30 +298,19 @@ pub fn to(s: State, p: Phase) -> Stepped
     ensures { result ≡ done (parts.to p [] s) }
 {
     Stepped {
-        answer: Answer::Done,
+        answer: Ok(()),
         state: entered(s, p),
         actions: on_entry(p),
     }
 }
 
 // An action ahead of the others; a fifth is dropped.
-pub fn ahead(a: Action, r: Stepped) -> Stepped
+pub fn ahead(a: Option<Action>, r: Stepped) -> Stepped
     ensures { result ≡ parts.ahead a r }
 {
-    let answer = r.answer;
-    let state = r.state;
-    let actions = r.actions;
-    let first = actions.first;
-    let second = actions.second;
-    let third = actions.third;
+    let [first, second, third, _] = r.actions;
     Stepped {
-        answer,
-        state,
-        actions: Actions {
-            first: a,
-            second: first,
-            third: second,
-            fourth: third,
-        },
+        actions: [a, first, second, third],
+        ..r
     }
 }

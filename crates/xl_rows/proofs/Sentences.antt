@@ -1,5 +1,6 @@
 -- The table does what each sentence of document 01 says: a row is looked up by computation, and an OPEN that crosses another goes by the
 -- two numbers that priority compares. Assumes nothing.
+use Rattle.std.specs.Prelude.{None, Option, Some}
 use Prim.Native.Nat.{ℕ, ◌+◌, ◌<◌, min}
 use mathlib.Core.Bool.{Bool, true, false, not, cond, ◌&&◌, ◌||◌}
 use mathlib.Core.List.{List, [], ◌∷◌, append-nil}
@@ -24,9 +25,6 @@ use Rattle.xl_parts.specs.declared.Event.TheVariants.{Line, Router, Manager, Own
 use Rattle.xl_parts.specs.declared.BreakAction.{BreakAction}
 use Rattle.xl_parts.specs.declared.Action.{Action}
 use Rattle.xl_parts.specs.declared.Action.TheVariants.{Send}
-use Rattle.xl_parts.specs.declared.Held.TheVariants.{Nothing, Frame}
-use Rattle.xl_parts.specs.declared.Seen.{Seen}
-use Rattle.xl_parts.specs.declared.Seen.TheVariants.{Never, Latest}
 use Rattle.xl_parts.specs.declared.Memory.{Memory}
 use Rattle.xl_parts.specs.declared.State.{State}
 use Rattle.xl_parts.specs.Parts.{Effect, first, stay}
@@ -124,32 +122,32 @@ module _ (f g : OpenFrame) where
     abbrev Back : Effect → Type 0
     Back = BacksOff f g lead m.heard m.close m.blocked n
 
-    abbrev at : Seen → State
-    at a = link Xl6 (known (Frame f) m.heard a m.broke m.close m.blocked) n
+    abbrev at : Option Wait → State
+    at a = link Xl6 (known (Some f) m.heard a m.broke m.close m.blocked) n
 
-    pub backs : (a : Seen) → Back (first lead (backoff f g (at a)))
+    pub backs : (a : Option Wait) → Back (first lead (backoff f g (at a)))
     backs a = record {
       reverses = λ d r. rw (eq-eqb _ _ d, eq-eqb _ _ r);
       retries = λ off. rw (not-true (comes_back g f) ((unless (both (equal g.head.destination f.head.source) (equal g.head.rate f.head.rate))).1 off));
     }
 
     -- with no AIP seen the test is priority's alone
-    tested : (t : Bool) → higher_than g f ≡ t → first lead (crossed (Frame f) g (at Never)) ≡ first lead (cond (not t) (stay [] (at Never)) (backoff f g (at Never)))
-    tested t e = ap (λ (t : Bool). first lead (cond (not t) (stay [] (at Never)) (backoff f g (at Never)))) e
+    tested : (t : Bool) → higher_than g f ≡ t → first lead (crossed (Some f) g (at None)) ≡ first lead (cond (not t) (stay [] (at None)) (backoff f g (at None)))
+    tested t e = ap (λ (t : Bool). first lead (cond (not t) (stay [] (at None)) (backoff f g (at None)))) e
 
-    pub stands : higher_than g f ≡ false → first lead (crossed (Frame f) g (at Never)) ≡ gives (at Never) lead
-    stands e = tested false e ∙ ap (λ (acts : List Action). gives (at Never) acts) (append-nil lead)
+    pub stands : higher_than g f ≡ false → first lead (crossed (Some f) g (at None)) ≡ gives (at None) lead
+    stands e = tested false e ∙ ap (λ (acts : List Action). gives (at None) acts) (append-nil lead)
 
-    pub overtakes : higher_than g f ≡ true → (a : Seen) → Back (first lead (crossed (Frame f) g (at a)))
-    overtakes e Never = subst⁻¹ Back (tested true e) (backs Never)
-    overtakes e (Latest w) = backs (Latest w)
+    pub overtakes : higher_than g f ≡ true → (a : Option Wait) → Back (first lead (crossed (Some f) g (at a)))
+    overtakes e None = subst⁻¹ Back (tested true e) (backs None)
+    overtakes e (Some w) = backs (Some w)
 
-    pub crosses : Crosses f g lead m.heard m.broke m.close m.blocked n (first lead (crossed (Frame f) g (at Never)))
+    pub crosses : Crosses f g lead m.heard m.broke m.close m.blocked n (first lead (crossed (Some f) g (at None)))
     crosses = record {
       smaller = λ l. stands (lower l);
       not_larger = λ e l. stands (behind e ∙ (λ i. le-ltb f.head.source g.head.source l i || and_false (eqb g.head.source f.head.source) refl i));
-      larger_wait = λ l. overtakes (higher l) Never;
-      larger_source = λ e l. overtakes (behind e ∙ or_left (eqb g.head.source f.head.source && false) (lt-ltb f.head.source g.head.source l)) Never;
+      larger_wait = λ l. overtakes (higher l) None;
+      larger_source = λ e l. overtakes (behind e ∙ or_left (eqb g.head.source f.head.source && false) (lt-ltb f.head.source g.head.source l)) None;
     }
 
 pub sentences : (f : OpenFrame) (m : Memory) (n : ℕ) → Sentences takes f m n
@@ -209,8 +207,8 @@ sentences f m n = record {
   -- 01 XL.27
   sent_in_5 = λ q h. simp (q, h);
   sent_broken = λ q. rw q;
-  sent_crosses = λ t g. crosses t g (Send (Message.ArbStatus Wait.Device) ∷ []) (known (Frame t) Nothing Never false m.close m.blocked) n;
-  sent_backs_off = λ t g w. backs t g (Send (Message.ArbStatus Wait.Device) ∷ []) (known (Frame t) Nothing Never false m.close m.blocked) n (Latest w);
+  sent_crosses = λ t g. crosses t g (Send (Message.ArbStatus Wait.Device) ∷ []) (known (Some t) None None false m.close m.blocked) n;
+  sent_backs_off = λ t g w. backs t g (Send (Message.ArbStatus Wait.Device) ∷ []) (known (Some t) None None false m.close m.blocked) n (Some w);
   -- 01 XL.28
   accept_in_6 = refl;
   -- 01 XL.10 01 XL.29
@@ -220,7 +218,7 @@ sentences f m n = record {
   -- 01 XL.31
   open_in_6 = λ t. crosses t f [] m n;
   -- 01 XL.32
-  backs_off = λ t w. backs t f [] m n (Latest w);
+  backs_off = λ t w. backs t f [] m n (Some w);
   -- 01 XL.33
   close_in_7 = λ q. simp q;
   second_close = λ q l. let e : takes f (Line Primitive.Close) (link Xl7 m n) ≡ unexpected (link Xl7 m n) = rw q in e ∙ one_more Xl7 m n l;

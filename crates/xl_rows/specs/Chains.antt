@@ -1,6 +1,6 @@
 -- Document 01, 'XL', a second time, by events behind each other: what one leaves in memory and a later one does with it, typed out from the
 -- first state to the last action. `takes` is what does it. Assumes nothing.
-use Rattle.std.specs.Prelude.{ℕ, true, false, [], ◌∷◌, ◌≡◌}
+use Rattle.std.specs.Prelude.{ℕ, true, false, [], ◌∷◌, ◌≡◌, None, Some}
 use Rattle.open_frame.specs.declared.OpenFrame.{OpenFrame}
 use Rattle.xl_parts.specs.declared.Phase.TheVariants.{Xl0, Xl1, Xl2, Xl3, Xl5, Xl6, Xl7, Xl9}
 use Rattle.xl_parts.specs.declared.Wait.{Wait}
@@ -15,8 +15,6 @@ use Rattle.xl_parts.specs.declared.Event.{Event}
 use Rattle.xl_parts.specs.declared.Event.TheVariants.{Line, Router, Manager, Own, Break}
 use Rattle.xl_parts.specs.declared.Action.{Action}
 use Rattle.xl_parts.specs.declared.Action.TheVariants.{Transmit, Send, RequestPath}
-use Rattle.xl_parts.specs.declared.Held.TheVariants.{Nothing, Frame}
-use Rattle.xl_parts.specs.declared.Seen.TheVariants.{Never}
 use Rattle.xl_parts.specs.declared.Memory.{Memory}
 use Rattle.xl_parts.specs.declared.State.{State}
 use Rattle.xl_parts.specs.Parts.{Effect}
@@ -42,29 +40,29 @@ pub record Chains (takes : OpenFrame → Event → State → Effect) (f g : Open
   -- 01 XL.12 01 XL.16 01 XL.19 01 XL.23
   pub won_retry_timer : (takes f (Own Notice.PathTimer) (takes f (Router Message.BackoffRetry) (takes f (Own Notice.Forwarded) (takes f (Manager Confirmation.ArbWon) (takes f (Manager (Confirmation.Arbitrating Arbitration.BlockedOnPartial)) (link Xl1 m n)).state).state).state).state).actions ≡ []
   -- 01 XL.12 01 XL.19
-  pub won_forwarded : takes f (Own Notice.Forwarded) (takes f (Manager Confirmation.ArbWon) (link Xl1 m n)).state ≡ gives (link Xl3 (known m.held m.heard Never false m.close m.blocked) n) []
+  pub won_forwarded : takes f (Own Notice.Forwarded) (takes f (Manager Confirmation.ArbWon) (link Xl1 m n)).state ≡ gives (link Xl3 (known m.held m.heard None false m.close m.blocked) n) []
   -- 01 XL.18 01 XL.19
   pub break_forwarded_lem : takes f (Own Notice.Forwarded) (takes f (Break BreakEvent.Received) (link Xl2 m n)).state ≡ gives (link Xl9 (known m.held m.heard m.aip true m.close m.blocked) n) (Action.Break BreakAction.Send ∷ Action.Break BreakAction.Transmit ∷ [])
   -- 01 XL.26 01 XL.27
-  pub break_sent_lem : takes f (Own Notice.Sent) (takes f (Break BreakEvent.Received) (link Xl5 m n)).state ≡ gives (link Xl9 (known m.held Nothing m.aip false m.close m.blocked) n) (Send (Message.ArbStatus Wait.Device) ∷ Action.Break BreakAction.Send ∷ Action.Break BreakAction.Transmit ∷ [])
+  pub break_sent_lem : takes f (Own Notice.Sent) (takes f (Break BreakEvent.Received) (link Xl5 m n)).state ≡ gives (link Xl9 (known m.held None m.aip false m.close m.blocked) n) (Send (Message.ArbStatus Wait.Device) ∷ Action.Break BreakAction.Send ∷ Action.Break BreakAction.Transmit ∷ [])
   -- an OPEN behind it changes nothing
-  pub break_open_sent : takes f (Own Notice.Sent) (takes g (Line Primitive.Open) (takes f (Break BreakEvent.Received) (link Xl5 m n)).state).state ≡ gives (link Xl9 (known m.held Nothing m.aip false m.close m.blocked) n) (Send (Message.ArbStatus Wait.Device) ∷ Action.Break BreakAction.Send ∷ Action.Break BreakAction.Transmit ∷ [])
+  pub break_open_sent : takes f (Own Notice.Sent) (takes g (Line Primitive.Open) (takes f (Break BreakEvent.Received) (link Xl5 m n)).state).state ≡ gives (link Xl9 (known m.held None m.aip false m.close m.blocked) n) (Send (Message.ArbStatus Wait.Device) ∷ Action.Break BreakAction.Send ∷ Action.Break BreakAction.Transmit ∷ [])
   -- 01 XL.27
   -- taken as in XL6
-  pub break_as_in_6 : m.broke ≡ true → takes f (Own Notice.Sent) (link Xl5 m n) ≡ behind (Send (Message.ArbStatus Wait.Device)) (takes f (Break BreakEvent.Received) (link Xl6 (known m.held Nothing m.aip false m.close m.blocked) n))
-  pub open_as_in_6 : m.broke ≡ false → m.heard ≡ Frame g → takes f (Own Notice.Sent) (link Xl5 m n) ≡ behind (Send (Message.ArbStatus Wait.Device)) (takes g (Line Primitive.Open) (link Xl6 (known m.held Nothing m.aip false m.close m.blocked) n))
+  pub break_as_in_6 : m.broke ≡ true → takes f (Own Notice.Sent) (link Xl5 m n) ≡ behind (Send (Message.ArbStatus Wait.Device)) (takes f (Break BreakEvent.Received) (link Xl6 (known m.held None m.aip false m.close m.blocked) n))
+  pub open_as_in_6 : m.broke ≡ false → m.heard ≡ Some g → takes f (Own Notice.Sent) (link Xl5 m n) ≡ behind (Send (Message.ArbStatus Wait.Device)) (takes g (Line Primitive.Open) (link Xl6 (known m.held None m.aip false m.close m.blocked) n))
   -- 01 XL.9 01 XL.26 01 XL.27 01 XL.31 01 XL.32
-  pub open_sent : Crosses f g (Send (Message.ArbStatus Wait.Device) ∷ []) Nothing false m.close m.blocked n (takes f (Own Notice.Sent) (takes g (Line Primitive.Open) (takes f (Router Message.SendOpen) (link Xl0 m n)).state).state)
+  pub open_sent : Crosses f g (Send (Message.ArbStatus Wait.Device) ∷ []) None false m.close m.blocked n (takes f (Own Notice.Sent) (takes g (Line Primitive.Open) (takes f (Router Message.SendOpen) (link Xl0 m n)).state).state)
   -- of two the latest counts
-  pub opens_sent : (h : OpenFrame) → Crosses f g (Send (Message.ArbStatus Wait.Device) ∷ []) Nothing false m.close m.blocked n (takes f (Own Notice.Sent) (takes g (Line Primitive.Open) (takes h (Line Primitive.Open) (takes f (Router Message.SendOpen) (link Xl0 m n)).state).state).state)
+  pub opens_sent : (h : OpenFrame) → Crosses f g (Send (Message.ArbStatus Wait.Device) ∷ []) None false m.close m.blocked n (takes f (Own Notice.Sent) (takes g (Line Primitive.Open) (takes h (Line Primitive.Open) (takes f (Router Message.SendOpen) (link Xl0 m n)).state).state).state)
   -- 01 XL.24 01 XL.26 01 XL.27 01 XL.31 01 XL.32
-  pub reverse_open_sent : Crosses f g (Send (Message.ArbStatus Wait.Device) ∷ []) Nothing false m.close m.blocked n (takes f (Own Notice.Sent) (takes g (Line Primitive.Open) (takes f (Router Message.BackoffReversePath) (link Xl3 m n)).state).state)
+  pub reverse_open_sent : Crosses f g (Send (Message.ArbStatus Wait.Device) ∷ []) None false m.close m.blocked n (takes f (Own Notice.Sent) (takes g (Line Primitive.Open) (takes f (Router Message.BackoffReversePath) (link Xl3 m n)).state).state)
   -- 01 XL.9 01 XL.27 01 XL.31 01 XL.32
-  pub sent_open : Crosses f g [] Nothing false m.close m.blocked n (takes g (Line Primitive.Open) (takes f (Own Notice.Sent) (takes f (Router Message.SendOpen) (link Xl0 m n)).state).state)
+  pub sent_open : Crosses f g [] None false m.close m.blocked n (takes g (Line Primitive.Open) (takes f (Own Notice.Sent) (takes f (Router Message.SendOpen) (link Xl0 m n)).state).state)
   -- 01 XL.30 01 XL.31 01 XL.32
   -- behind an AIP every OPEN backs off
-  pub aip_open : (w : Wait) → BacksOff f g [] m.heard m.close m.blocked n (takes g (Line Primitive.Open) (takes f (Line (Primitive.Aip w)) (link Xl6 (known (Frame f) m.heard Never m.broke m.close m.blocked) n)).state)
+  pub aip_open : (w : Wait) → BacksOff f g [] m.heard m.close m.blocked n (takes g (Line Primitive.Open) (takes f (Line (Primitive.Aip w)) (link Xl6 (known (Some f) m.heard None m.broke m.close m.blocked) n)).state)
   -- 01 XL.33 01 XL.34
-  pub close_send_close : m.close ≡ false → takes f (Router Message.SendClose) (takes f (Line Primitive.Close) (link Xl7 m n)).state ≡ gives (link Xl0 (known Nothing Nothing Never false false false) n) (Transmit Primitive.Close ∷ [])
+  pub close_send_close : m.close ≡ false → takes f (Router Message.SendClose) (takes f (Line Primitive.Close) (link Xl7 m n)).state ≡ gives (link Xl0 (known None None None false false false) n) (Transmit Primitive.Close ∷ [])
   -- 01 XL.34 01 XL.35
-  pub send_close_close : m.close ≡ false → takes f (Line Primitive.Close) (takes f (Router Message.SendClose) (link Xl7 m n)).state ≡ gives (link Xl0 (known Nothing Nothing Never false false false) n) (Send Message.SendClose ∷ [])
+  pub send_close_close : m.close ≡ false → takes f (Line Primitive.Close) (takes f (Router Message.SendClose) (link Xl7 m n)).state ≡ gives (link Xl0 (known None None None false false false) n) (Send Message.SendClose ∷ [])

@@ -1,6 +1,6 @@
 -- Document 01, 'XL': its table. Each row of document 01 stands here once, state by state; an event that no row of its state names is
 -- unexpected. `Line` is what the phy receives, `Router` and `Manager` what these two say, `Own` what the link tells itself. Assumes nothing.
-use Rattle.std.specs.Prelude.{ℕ, ◌+◌, min, Bool, true, false, not, cond, ◌&&◌, List, [], ◌∷◌, eqb}
+use Rattle.std.specs.Prelude.{ℕ, ◌+◌, min, Bool, true, false, not, cond, ◌&&◌, List, [], ◌∷◌, eqb, is_some, None, Option, Some}
 use Rattle.open_frame.specs.declared.OpenFrame.{OpenFrame}
 use Rattle.open_frame.specs.Priority.{higher_than}
 use Rattle.xl_parts.specs.declared.Phase.{Phase}
@@ -19,10 +19,6 @@ use Rattle.xl_parts.specs.declared.Event.{Event}
 use Rattle.xl_parts.specs.declared.Event.TheVariants.{Line, Router, Manager, Own, Break, Disable}
 use Rattle.xl_parts.specs.declared.Action.{Action}
 use Rattle.xl_parts.specs.declared.Action.TheVariants.{Transmit, Send, RequestPath}
-use Rattle.xl_parts.specs.declared.Held.{Held}
-use Rattle.xl_parts.specs.declared.Held.TheVariants.{Nothing, Frame}
-use Rattle.xl_parts.specs.declared.Seen.{Seen}
-use Rattle.xl_parts.specs.declared.Seen.TheVariants.{Never, Latest}
 use Rattle.xl_parts.specs.declared.Memory.{Memory}
 use Rattle.xl_parts.specs.declared.State.{State}
 use Rattle.xl_parts.specs.Parts.{Effect, forgets, remembering, holding, hearing, seeing, breaking, closing, blocking, entered, on_entry, stay, to, first}
@@ -66,9 +62,8 @@ timed_out s = cond s.memory.blocked (stay (RequestPath true ∷ []) s) (stay [] 
 abbrev pub forwarded : State → Effect
 forwarded s = cond s.memory.broke (broken s) (to Xl3 [] s)
 
-abbrev pub was_seen : Seen → Bool
-was_seen Never = false
-was_seen (Latest k) = true
+abbrev pub was_seen : Option Wait → Bool
+was_seen a = is_some a
 
 -- g answers f on f's own path: its destination and rate equal source and rate of f
 abbrev pub comes_back : OpenFrame → OpenFrame → Bool
@@ -83,17 +78,17 @@ backoff f g s =
     (to Xl1 (Send Message.BackoffRetry ∷ []) (holding g s))
 
 -- 01 XL.31: OPEN: if no AIP was seen and it isn't of higher priority than the frame transmitted, nothing.
-abbrev pub stands : Seen → OpenFrame → OpenFrame → Bool
+abbrev pub stands : Option Wait → OpenFrame → OpenFrame → Bool
 stands aip f g = not (was_seen aip) && not (higher_than g f)
 
 -- the frame transmitted is the one held; a state that keeps the rules holds one here
-abbrev pub crossed : Held → OpenFrame → State → Effect
-crossed Nothing g s = stay [] s
-crossed (Frame f) g s = cond (stands s.memory.aip f g) (stay [] s) (backoff f g s)
+abbrev pub crossed : Option OpenFrame → OpenFrame → State → Effect
+crossed None g s = stay [] s
+crossed (Some f) g s = cond (stands s.memory.aip f g) (stay [] s) (backoff f g s)
 
-abbrev pub heard_in6 : Held → State → Effect
-heard_in6 Nothing s = stay [] s
-heard_in6 (Frame g) s = crossed s.memory.held g s
+abbrev pub heard_in6 : Option OpenFrame → State → Effect
+heard_in6 None s = stay [] s
+heard_in6 (Some g) s = crossed s.memory.held g s
 
 -- 01 XL.27: Sent: ArbStatus(Waiting On Device), XL6, then a remembered BREAK, or else OPEN, is taken as in XL6 and both are forgotten.
 abbrev pub remembered : Memory → State → Effect

@@ -1,6 +1,5 @@
 // The frames of the cells, which their tags tell apart.
 use open_frame::{Awt, Head, OpenFrame, Pbc};
-use xl_parts::Held;
 
 pub(crate) fn frame(tag: u16, awt: u16, destination: u64, source: u64, rate: u16) -> OpenFrame {
     OpenFrame {
@@ -35,31 +34,14 @@ pub(crate) fn unlisted() -> OpenFrame {
     frame(2, 100, 4000, 3000, 11)
 }
 
-pub(crate) fn held(there: u8, f: OpenFrame) -> Held {
-    if there == 0 {
-        return Held::Nothing;
-    }
-    Held::Frame(f)
-}
-
-fn tag_sign(tag: u16) -> u8 {
+fn tag_sign(tag: u16) -> char {
     match tag {
-        1 => b'h',
-        2 => b'e',
-        _ => b'o',
+        1 => 'h',
+        2 => 'e',
+        _ => 'o',
     }
 }
 
-pub(crate) fn held_sign(h: Held) -> u8 {
-    match h {
-        Held::Nothing => b'-',
-        Held::Frame(f) => tag_sign(f.head.tag),
-    }
-}
-
-pub(crate) fn held_number(h: Held) -> u32 {
-    match h {
-        Held::Nothing => 0,
-        Held::Frame(f) => f.head.tag as u32,
-    }
+pub(crate) fn held_sign(h: Option<OpenFrame>) -> char {
+    h.map_or('-', |f| tag_sign(f.head.tag))
 }

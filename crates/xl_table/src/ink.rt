@@ -1,6 +1,6 @@
 // What is written to standard output, a piece at a time.
-use std::io;
 use std::io::{Stderr, Stdout, Write};
+use std::{fmt, io};
 
 // Standard error, until it is closed; then what is said is dropped.
 #[derive(Drop)]
@@ -39,36 +39,18 @@ impl Ink {
     }
 }
 
-// What fails is said, and once: nothing here stops at it, so standard error is closed behind the first line.
-pub(crate) fn text(to: &mut Ink, s: &[u8]) {
-    if !streams::write(&mut to.to, s, b"xl_table: writing", &mut to.said) {
-        to.said.closed = true;
-    }
-}
-
-pub(crate) fn sign(to: &mut Ink, c: u8) {
-    let s = [c];
-    text(to, &s);
-}
-
-fn decimal(to: &mut Ink, n: u64) {
-    let mut digits = [0u8; 20];
-    let k = lines::put_number(n, &mut digits, 0);
-    text(to, &digits[..k]);
-}
-
-pub(crate) fn number(to: &mut Ink, n: u8) {
-    decimal(to, n as u64);
-}
-
-pub(crate) fn count(to: &mut Ink, n: u32) {
-    decimal(to, n as u64);
-}
-
-pub(crate) fn flag(to: &mut Ink, b: bool) {
-    if b {
-        sign(to, b'1');
-    } else {
-        sign(to, b'0');
+// What fails is said, and once: nothing here stops at it, so standard error is closed behind the first line, and no piece answers an
+// error.
+impl fmt::Write for Ink {
+    fn write_str(&mut self, s: &str) -> fmt::Result {
+        if !streams::write(
+            &mut self.to,
+            s.as_bytes(),
+            b"xl_table: writing",
+            &mut self.said,
+        ) {
+            self.said.closed = true;
+        }
+        Ok(())
     }
 }

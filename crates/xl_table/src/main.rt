@@ -17,11 +17,17 @@ mod table;
 mod words;
 
 use crate::ink::Ink;
+use std::fmt;
+
+fn print_all(to: &mut Ink) -> fmt::Result {
+    table::print_states(to)?;
+    crossings::print_crossings(to)?;
+    refused::print_refusals(to)?;
+    counts::print_counts(to)
+}
 
 fn main(rt: HostRuntime) {
     let mut to = Ink::new(rt.stdout(), rt.stderr());
-    table::print_states(&mut to);
-    crossings::print_crossings(&mut to);
-    refused::print_refusals(&mut to);
-    counts::print_counts(&mut to);
+    // No piece answers an error, so there is none to say here.
+    let _ = print_all(&mut to);
 }

@@ -1,6 +1,6 @@
 -- What the functions ask of their arguments holds of all of them: refusals, numbers in bytes, frames and the calls from C. Assumes nothing.
-use Rattle.refusals.proofs.number.Kinds as number_of_lem
-use Rattle.refusals.proofs.number.Reads as number
+use Rattle.refusals.proofs.U8FromRefusal.from.Kinds as number_of_lem
+use Rattle.refusals.proofs.U8FromRefusal.from.Reads as number
 use Rattle.refusals.proofs.answer.Kinds as answer-of
 use Rattle.refusals.proofs.answer.Reads as answer
 use Rattle.wire.proofs.get_be.Kinds as get-be-of

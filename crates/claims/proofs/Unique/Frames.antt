@@ -1,4 +1,8 @@
 -- Two outcomes that meet a promise are equal: refusals, numbers in bytes, frames and the calls from C. Assumes nothing.
+use Rattle.ssp_frame.specs.declared.response.ResponseHead.{ResponseHead}
+use Rattle.ssp_frame.specs.declared.data_out.OutHead.{OutHead}
+use Rattle.ssp_frame.specs.declared.data.DataHead.{DataHead}
+use Rattle.ssp_frame.specs.declared.Frame.{Frame}
 use Prim.Native.Nat.{ℕ}
 use mathlib.Core.List.{List, map}
 use mathlib.Core.Path.{refl, sym, ◌∙◌}
@@ -6,13 +10,10 @@ use borrow.Fn.Kinds as kinds
 use contract.Lifetimes
 use denote.Triple.Clauses
 use Rattle.open_frame.specs.declared.OpenFrame.{OpenFrame}
-use Rattle.ssp_frame.specs.declared.data.DataFrame.{DataFrame}
 use Rattle.ssp_frame.specs.declared.xfer_rdy.XferHead.{XferHead}
-use Rattle.ssp_frame.specs.declared.data_out.OutFrame.{OutFrame}
-use Rattle.ssp_frame.specs.declared.response.ResponseFrame.{ResponseFrame}
 use Rattle.refusals.proofs.Frames.{wrote_once}
-use Rattle.refusals.proofs.number.Kinds as number_of_lem
-use Rattle.refusals.proofs.number.Reads as number
+use Rattle.refusals.proofs.U8FromRefusal.from.Kinds as number_of_lem
+use Rattle.refusals.proofs.U8FromRefusal.from.Reads as number
 use Rattle.refusals.proofs.answer.Kinds as answer-of
 use Rattle.refusals.proofs.answer.Reads as answer
 use Rattle.wire.proofs.get_be.Kinds as get-be-of
@@ -99,7 +100,7 @@ sonerwal_open_read_left κs s = open_of (map (λ x. x.now) (first9 s.1))
 abbrev sonerwal_open_write_left : (κs : Lifetimes.Lfts 1) → Clauses.AtExit (kinds.ended_of 1 sonerwal-open-write-of.ps sonerwal-open-write-of.r) κs → List ℕ
 sonerwal_open_write_left κs s = (behind9 s).0.now
 
-abbrev sonerwal_data_read_left : (κs : Lifetimes.Lfts 7) → Clauses.AtExit (kinds.ended_of 7 sonerwal-data-read-of.ps sonerwal-data-read-of.r) κs → DataFrame
+abbrev sonerwal_data_read_left : (κs : Lifetimes.Lfts 7) → Clauses.AtExit (kinds.ended_of 7 sonerwal-data-read-of.ps sonerwal-data-read-of.r) κs → Frame DataHead
 sonerwal_data_read_left κs s = data_of (map (λ x. x.now) (first6 s.1))
 
 abbrev sonerwal_data_write_left : (κs : Lifetimes.Lfts 2) → Clauses.AtExit (kinds.ended_of 2 sonerwal-data-write-of.ps sonerwal-data-write-of.r) κs → List ℕ
@@ -120,13 +121,13 @@ sonerwal_xfer_rdy_read_left κs s = xfer_of (map (λ x. x.now) (first8 s.1))
 abbrev sonerwal_xfer_rdy_write_left : (κs : Lifetimes.Lfts 1) → Clauses.AtExit (kinds.ended_of 1 sonerwal-xfer-rdy-write-of.ps sonerwal-xfer-rdy-write-of.r) κs → List ℕ
 sonerwal_xfer_rdy_write_left κs s = (behind6 s).1.1.0.now
 
-abbrev sonerwal_data_out_read_left : (κs : Lifetimes.Lfts 8) → Clauses.AtExit (kinds.ended_of 8 sonerwal-data-out-read-of.ps sonerwal-data-out-read-of.r) κs → OutFrame
+abbrev sonerwal_data_out_read_left : (κs : Lifetimes.Lfts 8) → Clauses.AtExit (kinds.ended_of 8 sonerwal-data-out-read-of.ps sonerwal-data-out-read-of.r) κs → Frame OutHead
 sonerwal_data_out_read_left κs s = out_of (map (λ x. x.now) (first7 s.1))
 
 abbrev sonerwal_data_out_write_left : (κs : Lifetimes.Lfts 2) → Clauses.AtExit (kinds.ended_of 2 sonerwal-data-out-write-of.ps sonerwal-data-out-write-of.r) κs → List ℕ
 sonerwal_data_out_write_left κs s = (behind6 s).1.0.now
 
-abbrev sonerwal_response_read_left : (κs : Lifetimes.Lfts 8) → Clauses.AtExit (kinds.ended_of 8 sonerwal-response-read-of.ps sonerwal-response-read-of.r) κs → ResponseFrame
+abbrev sonerwal_response_read_left : (κs : Lifetimes.Lfts 8) → Clauses.AtExit (kinds.ended_of 8 sonerwal-response-read-of.ps sonerwal-response-read-of.r) κs → Frame ResponseHead
 sonerwal_response_read_left κs s = response_of (map (λ x. x.now) (first7 s.1))
 
 abbrev sonerwal_response_write_left : (κs : Lifetimes.Lfts 2) → Clauses.AtExit (kinds.ended_of 2 sonerwal-response-write-of.ps sonerwal-response-write-of.r) κs → List ℕ

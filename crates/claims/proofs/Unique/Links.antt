@@ -34,10 +34,10 @@ use Rattle.xl.proofs.receive.Kinds as xl-receive-of
 use Rattle.xl.proofs.receive.Reads as xl_receive
 use Rattle.xl.proofs.status.Kinds as xl-status-of
 use Rattle.xl.proofs.status.Reads as xl_status
-use Rattle.open_lent.proofs.frame_of.Kinds as open-frame-of-of
-use Rattle.open_lent.proofs.frame_of.Reads as open_frame_of
-use Rattle.open_lent.proofs.shown.Kinds as open-shown-of
-use Rattle.open_lent.proofs.shown.Reads as open_shown
+use Rattle.open_lent.proofs.OpenFrameFromOpen.from.Kinds as open-frame-of-of
+use Rattle.open_lent.proofs.OpenFrameFromOpen.from.Reads as open_frame_of
+use Rattle.open_lent.proofs.OpenFromOpenFrame.from.Kinds as open-shown-of
+use Rattle.open_lent.proofs.OpenFromOpenFrame.from.Reads as open_shown
 use Rattle.open_lent.proofs.clear.Kinds as open-clear-of
 use Rattle.open_lent.proofs.clear.Reads as open_clear
 use Rattle.open_lent.proofs.formed.Kinds as open-formed-of

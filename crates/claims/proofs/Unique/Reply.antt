@@ -73,7 +73,7 @@ use Rattle.claims.proofs.Calls.{One, none}
 use Rattle.claims.proofs.ReplyCalls.{behind5}
 
 abbrev with_bytes_left : (κs : Lifetimes.Lfts 2) → Clauses.AtExit (kinds.ended_of 2 with-bytes-of.ps with-bytes-of.r) κs → List ℕ
-with_bytes_left κs s = (behind5 s.1).1.0.now
+with_bytes_left κs s = s.1.1.1.1.1.0.now
 
 abbrev lent_respond_left : (κs : Lifetimes.Lfts 2) → Clauses.AtExit (kinds.ended_of 2 lent-respond-of.ps lent-respond-of.r) κs → List ℕ
 lent_respond_left κs s = (behind5 s.1).1.0.now

@@ -99,10 +99,10 @@ use Rattle.claims.proofs.Calls.{One, none}
 use Rattle.claims.proofs.Named.{behind3}
 
 abbrev ask_left : (κs : Lifetimes.Lfts 1) → Clauses.AtExit (kinds.ended_of 1 ask-of.ps ask-of.r) κs → List ℕ
-ask_left κs s = (behind3 s.1.1).0.now
+ask_left κs s = s.1.1.1.0.now
 
 abbrev take_left : (κs : Lifetimes.Lfts 2) → Clauses.AtExit (kinds.ended_of 2 take-of.ps take-of.r) κs → List ℕ
-take_left κs s = (behind3 s.1).1.0.now
+take_left κs s = s.1.1.1.0.now
 
 abbrev lent_ask_left : (κs : Lifetimes.Lfts 1) → Clauses.AtExit (kinds.ended_of 1 lent-ask-of.ps lent-ask-of.r) κs → List ℕ
 lent_ask_left κs s = (behind3 s.1.1).0.now

@@ -1,8 +1,13 @@
--- The loop's invariant: the first `i` bytes of s are put, and `next` is the place behind them. Assumes nothing.
-use native.Mathlib.Omega.{arith}
-use Rattle.lines.proofs.Puts.{one_more}
+-- Past the end nothing is stored; else as many bytes as there is room for are copied at once. Assumes nothing.
+use Rattle.std.proofs.Common.{◌≡◌, ◌+◌, ◌-◌, arith}
+use Rattle.lines.proofs.Puts.{copied, none_stored}
 use Rattle.lines.proofs.put_bytes.Goals as goal
 
-pub loop-i-preserved : goal.loop-i-preserved
-loop-i-preserved c =
-    (omega arith, one_more c.args.s.now c.loop-i.i c.loop-i-test.true c.loop-i.invariant.1 c.put_byte-next.ensures)
+pub returns-then-out-at : goal.returns-then-out-at
+returns-then-out-at c = none_stored c.args.out.now c.args.s.now c.args.at c.if-out-at.true
+
+pub returns : goal.returns
+returns c =
+    let a = c.args in
+    let size : a.at + c.min-n.result - a.at ≡ c.min-n.result = omega arith in
+    rw c.copy_from_slice.ensures.after (copied a.out.now a.s.now a.at c.min-n.result (a.at + c.min-n.result - a.at) (omega arith) c.min-n.ensures size)

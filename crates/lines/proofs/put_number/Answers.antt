@@ -13,11 +13,11 @@ pub overflow_sub-i : goal.overflow_sub-i
 overflow_sub-i c = room_left c.loop-rest.invariant
 
 pub loop-rest-preserved : goal.loop-rest-preserved
-loop-rest-preserved c = spelled_more c.loop-rest.invariant c.loop-rest-test.true _ c.glyph.ensures
+loop-rest-preserved c = spelled_more c.loop-rest.invariant c.loop-rest-test.true _ refl
 
 pub overflow_sub-i-2 : goal.overflow_sub-i-2
 overflow_sub-i-2 c = room_left c.loop-rest.invariant
 
 pub returns : goal.returns
 returns c =
-    subst (λ xs. Put c.args.out.now c.args.at xs c.put_bytes.result c.put_bytes.new.out) (spelled_all c.loop-rest.invariant c.loop-rest-test.false _ c.glyph-2.ensures) c.put_bytes.ensures
+    subst (λ xs. Put c.args.out.now c.args.at xs c.put_bytes.result c.put_bytes.new.out) (spelled_all c.loop-rest.invariant c.loop-rest-test.false _ refl) c.put_bytes.ensures

@@ -1,24 +1,38 @@
--- The loop's invariant: `v` is at most `most`, and what `read_number` says of s is what `read_from` says of the bytes left, with
--- `v` read already. The tests before the loop are those of `begins`; a value past `most` ends it, for digits behind it never make
--- it smaller. Assumes nothing.
-use mathlib.Core.Path.{sym, ◌∙◌}
-use native.Mathlib.Omega.{arith}
-use Rattle.lines.proofs.Numbers.{read_empty, read_zero, read_rest, turn_large}
+-- The tests before the loop are those of `begins`; a value past `most` ends it, for digits behind it never make it smaller.
+-- Assumes nothing.
+use Rattle.std.proofs.Common.{◌<◌, ◌+◌, ◌*◌, sym, ◌∙◌, arith}
+use borrow.Author.Tests.{eqb-true, eqb-false}
+use Rattle.lines.proofs.Numbers.{read_empty, read_zero, read_rest, turn_other, turn_large}
 use Rattle.lines.proofs.read_number.Goals as goal
 
-pub returns-then-s-eq0 : goal.returns-then-s-eq0
-returns-then-s-eq0 c = sym (read_empty c.args.most c.args.s.now c.if-s-eq0.true)
+pub returns-then-is_empty : goal.returns-then-is_empty
+returns-then-is_empty c = sym (read_empty c.args.most c.args.s.now (eqb-true _ _ (sym c.is_empty.ensures ∙ c.if-is_empty.true)))
 
 pub returns-then-s : goal.returns-then-s
 returns-then-s c = sym (read_zero c.args.most c.args.s.now c.if-s.true)
 
-pub loop-i-init : goal.loop-i-init
-loop-i-init c = (omega arith, omega arith, read_rest c.args.most c.args.s.now c.if-s-eq0.false c.if-s.false)
+pub loop-byte-init : goal.loop-byte-init
+loop-byte-init c = (omega arith, read_rest c.args.most c.args.s.now (eqb-false _ _ (sym c.is_empty.ensures ∙ c.if-is_empty.false)) c.if-s.false)
 
-pub returns-then-most-d : goal.returns-then-most-d
-returns-then-most-d c =
-    sym (c.loop-i.invariant.2 ∙ turn_large c.args.most c.args.s.now c.loop-i.v c.loop-i.i c.digit-d.result c.loop-i-test.true c.digit-d.ensures c.if-d-gt9.false (omega (arith, c.if-most-d.true)))
+pub returns-in_err-last : goal.returns-in_err-last
+returns-in_err-last c =
+    let l = c.loop-byte in
+    c.from_residual.ensures ∙ sym (l.invariant.1 ∙ turn_other c.args.most c.args.s.now l.value l.byte-index c.loop-byte-test.true (sym c.in_err-last.ensures))
 
-pub returns-then-most-d-2 : goal.returns-then-most-d-2
-returns-then-most-d-2 c =
-    sym (c.loop-i.invariant.2 ∙ turn_large c.args.most c.args.s.now c.loop-i.v c.loop-i.i c.digit-d.result c.loop-i-test.true c.digit-d.ensures c.if-d-gt9.false (omega (arith, c.if-most-d-2.true, c.if-most-d.false)))
+pub returns-in_err-checked_mul : goal.returns-in_err-checked_mul
+returns-in_err-checked_mul c =
+    let l = c.loop-byte in
+    let large : c.args.most < l.value * 10 + c.in_ok-last.last = omega (arith, c.in_err-checked_mul.ensures) in
+    c.from_residual-in_err-checked_mul.ensures ∙ sym (l.invariant.1 ∙ turn_large c.args.most c.args.s.now l.value l.byte-index c.loop-byte-test.true c.in_ok-last.last (sym c.in_ok-last.ensures) large)
+
+pub returns-in_err-value : goal.returns-in_err-value
+returns-in_err-value c =
+    let l = c.loop-byte in
+    let large : c.args.most < l.value * 10 + c.in_ok-last.last = omega (arith, c.in_ok-checked_mul.ensures, c.in_err-value.ensures) in
+    c.from_residual-in_err-value.ensures ∙ sym (l.invariant.1 ∙ turn_large c.args.most c.args.s.now l.value l.byte-index c.loop-byte-test.true c.in_ok-last.last (sym c.in_ok-last.ensures) large)
+
+pub returns-then-most-value : goal.returns-then-most-value
+returns-then-most-value c =
+    let l = c.loop-byte in
+    let large : c.args.most < l.value * 10 + c.in_ok-last.last = omega (arith, c.in_ok-checked_mul.ensures, c.in_ok-value.ensures, c.if-most-value.true) in
+    sym (l.invariant.1 ∙ turn_large c.args.most c.args.s.now l.value l.byte-index c.loop-byte-test.true c.in_ok-last.last (sym c.in_ok-last.ensures) large)

@@ -11,14 +11,14 @@ use Rattle.port_rules.proofs.paired.Goals as goal
 
 pub loop-k-init : goal.loop-k-init
 loop-k-init c = let a = c.args in
-    (omega arith, all_start (not (is_in_progress a.r) || ltb a.r.phy 8) (λ j. paired_at (get_or a.phys j absent_phy) j a.r a.i))
+    (all_start (not (is_in_progress a.r) || ltb a.r.phy 8) (λ j. paired_at (get_or a.phys j absent_phy) j a.r a.i))
 
 pub loop-k-preserved : goal.loop-k-preserved
 loop-k-preserved c =
     let a = c.args in
-    (omega arith, all_next (not (is_in_progress a.r) || ltb a.r.phy 8) (λ j. paired_at (get_or a.phys j absent_phy) j a.r a.i) c.loop-k.k c.loop-k.invariant.1 c.paired_at-kept.ensures)
+    (all_next (not (is_in_progress a.r) || ltb a.r.phy 8) (λ j. paired_at (get_or a.phys j absent_phy) j a.r a.i) c.loop-k.k c.loop-k.invariant c.paired_at-kept.ensures)
 
 pub returns : goal.returns
 unfolding paired
 returns c = let z : c.loop-k.k ≡ 8 = omega arith in
-    c.loop-k.invariant.1 ∙ rw z refl
+    c.loop-k.invariant ∙ rw z refl

@@ -9,14 +9,14 @@ use Rattle.port_rules.proofs.port_rule.Goals as goal
 
 pub loop-k-init : goal.loop-k-init
 loop-k-init c = let p = c.args.p in
-    (omega arith, c.in_range-kept.ensures ∙ all_start (in_range p.count p.loss) (λ j. phy_rule p.count (get_or p.phys j absent_phy) j))
+    (c.in_range-kept.ensures ∙ all_start (in_range p.count p.loss) (λ j. phy_rule p.count (get_or p.phys j absent_phy) j))
 
 pub loop-k-preserved : goal.loop-k-preserved
 loop-k-preserved c =
     let p = c.args.p in
-    (omega arith, all_next (in_range p.count p.loss) (λ j. phy_rule p.count (get_or p.phys j absent_phy) j) c.loop-k.k c.loop-k.invariant.1 c.phy_rule-kept.ensures)
+    (all_next (in_range p.count p.loss) (λ j. phy_rule p.count (get_or p.phys j absent_phy) j) c.loop-k.k c.loop-k.invariant c.phy_rule-kept.ensures)
 
 pub returns : goal.returns
 unfolding port_rule
 returns c = let z : c.loop-k.k ≡ 8 = omega arith in
-    c.loop-k.invariant.1 ∙ rw z refl
+    c.loop-k.invariant ∙ rw z refl

@@ -1,11 +1,10 @@
 -- Each turn takes and says what came, and the end of the input what is left to say. Assumes nothing.
-use Rattle.std.proofs.Common.{◌≡◌, true, [], ◌++◌, take, refl, sym, ◌∙◌, arith}
+use Rattle.std.proofs.Common.{◌≡◌, true, [], ◌++◌, take, refl, sym, ap, ◌∙◌, arith, Some}
 use Rattle.std.proofs.KnownBytes.{Appends-nil, Consumes-nil, Consumes-trans, Keeps-refl, Keeps-trans}
-use borrow.Author.Tests.{not-false}
 use Rattle.laws.proofs.Bools.{never, and_left, and_right}
 use Rattle.readrun.proofs.Program.{given, own, goes_on, says_on, ends}
 use Rattle.readrun.proofs.all.Goals as goal
-use Rattle.readrun.proofs.all.Goals.{else-loop-test, then-loop-test+else-got+then-n-eq0}
+use Rattle.readrun.proofs.all.Goals.{else-loop-test, then-loop-test+in-Some+then-n-eq0}
 
 pub loop-init : goal.loop-init
 loop-init g c = record {
@@ -20,21 +19,20 @@ pub loop-preserved : goal.loop-preserved
 loop-preserved g c =
     let i = c.loop.invariant in
     let (xs, came, runs, holds) = i.ran in
-    let got = c.get-got in
-    let went = c.block-went in
-    let ys = take got.result.bytes got.new.input in
-    let still : went.result.open ≡ true = not-false went.result.open c.if-not-went.false in
+    let got = c.in-Some.ensures in
+    let went = c.in-Some-block.ensures in
+    let ys = take c.in-Some.n c.get.new.input in
     record {
       room = omega arith;
       sized = omega arith;
       ran = (
         xs ++ ys,
-        Consumes-trans _ _ _ _ _ came got.ensures.taken,
-        goes_on xs runs ys (went.ensures.kept (own xs runs)) (went.ensures.carries still),
-        says_on xs runs _ _ _ holds ys (went.ensures.says still),
+        Consumes-trans _ _ _ _ _ came got.taken,
+        goes_on xs runs ys (went.kept (own xs runs)) went.carries,
+        says_on xs runs _ _ _ holds ys went.says,
       );
       going = i.going;
-      silent = Keeps-trans _ _ _ i.silent (Keeps-trans _ _ _ (got.ensures.silent c.if-got.false) (went.ensures.silent still));
+      silent = Keeps-trans _ _ _ i.silent (Keeps-trans _ _ _ got.silent went.silent);
     }
 
 pub returns-clause-prints : goal.returns-clause-prints
@@ -46,6 +44,6 @@ returns-clause-prints g c = λ e some.
     let printed = ends xs runs _ _ _ holds i.room c.close-last.ensures (c.put.ensures.all put) in
     elim c.loop-test.branch [
       | else-loop-test w ↦ absurd (never (sym (w.ended-is ∙ i.going) ∙ ended))
-      | then-loop-test+else-got+then-n-eq0 w ↦
-          given _ _ _ xs w.get-got.new.input came w.get-got.ensures.taken w.if-n-eq0.true (w.get-got.ensures.ended w.if-got.false w.if-n-eq0.true (omega arith)) _ printed
+      | then-loop-test+in-Some+then-n-eq0 w ↦
+          given _ _ _ xs w.get.new.input came w.in-Some.ensures.taken w.if-n-eq0.true (w.in-Some.ensures.ended (ap Some w.if-n-eq0.true) (omega arith)) _ printed
     ]

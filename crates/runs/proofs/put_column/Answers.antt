@@ -4,4 +4,4 @@ use Rattle.runs.proofs.put_column.Goals as goal
 
 pub returns : goal.returns
 returns c =
-    then c.put_byte-p.ensures c.put_number.ensures
+    then c.put_byte-p.ensures (rw c.from.ensures at c.put_number.ensures)

@@ -14,4 +14,4 @@ returns-clause-put c =
 pub returns-clause-used_len_bound : goal.returns-clause-used_len_bound
 returns-clause-used_len_bound c =
     let a = c.args in
-    row_short a.line a.a a.read a.balance a.unanswered a.used (omega arith) (omega arith) (omega arith) (omega arith) (omega arith)
+    row_short a.line a.step.answer a.step.state.read a.step.state.balance a.step.state.unanswered a.step.state.used (omega arith) (omega arith) (omega arith) (omega arith) (omega arith)

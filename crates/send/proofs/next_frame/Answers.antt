@@ -11,7 +11,7 @@ use Rattle.ssp_frame.specs.declared.data.DataHead.{DataHead}
 use Rattle.transfer.specs.Steps.{limit, frame_length}
 use Rattle.transfer.specs.declared.Stepped.{Stepped}
 use Rattle.send.specs.Send.{head_of, is_sent}
-use Rattle.send.proofs.Laws.{not_sent, unlisted, unfit, no_room, sent}
+use Rattle.send.proofs.Laws.{not_done, done, not_sent, unlisted, unfit, no_room, sent}
 use Rattle.send.proofs.next_frame.Goals as goal
 
 pub returns-then-not-is_sent : goal.returns-then-not-is_sent
@@ -39,15 +39,15 @@ returns-then-body-frame_length c =
     let w = unfit limit a.s (head_of a.s a.destination a.source a.tag) body a.out.now went listed off in
     record { step = c.refused-then-body-frame_length.ensures ∙ w.step; bytes = w.bytes }
 
-pub returns-then-not-is_done : goal.returns-then-not-is_done
-returns-then-not-is_done c =
+pub returns-then-is_err : goal.returns-then-is_err
+returns-then-is_err c =
     let a = c.args in
     let went = sym (c.is_sent.ensures ∙ ap (λ (st : Stepped). is_sent st.answer) c.frame-stepped.ensures) ∙ c.if-not-is_sent.false in
     let listed = sym (c.data_listed.ensures ∙ ap data_listed c.head-h.ensures) ∙ c.if-not-data_listed.false in
     let n = c.if-body-frame_length.false ∙ c.frame_length.ensures in
-    let wrote = subst (λ (h : DataHead). Wrote (write_causes h a.body.now a.out.now) (data_left h a.body.now a.out.now) a.out.now c.write_data-written.result c.write_data-written.new.out) c.head-h.ensures c.write_data-written.ensures in
-    let w = no_room limit a.s (head_of a.s a.destination a.source a.tag) a.body.now a.out.now went listed n wrote (sym c.is_done.ensures ∙ c.if-not-is_done.true) in
-    record { step = c.refused-then-not-is_done.ensures ∙ w.step; bytes = w.bytes }
+    let wrote = subst (λ (h : DataHead). Wrote (write_causes h a.body.now a.out.now) (data_left h a.body.now a.out.now) a.out.now c.write_data.result c.write_data.new.out) c.head-h.ensures c.write_data.ensures in
+    let w = no_room limit a.s (head_of a.s a.destination a.source a.tag) a.body.now a.out.now went listed n wrote (not_done _ (sym c.is_err.ensures.value ∙ c.if-is_err.true)) in
+    record { step = c.refused-then-is_err.ensures ∙ w.step; bytes = w.bytes }
 
 pub returns : goal.returns
 returns c =
@@ -55,6 +55,6 @@ returns c =
     let went = sym (c.is_sent.ensures ∙ ap (λ (st : Stepped). is_sent st.answer) c.frame-stepped.ensures) ∙ c.if-not-is_sent.false in
     let listed = sym (c.data_listed.ensures ∙ ap data_listed c.head-h.ensures) ∙ c.if-not-data_listed.false in
     let n = c.if-body-frame_length.false ∙ c.frame_length.ensures in
-    let wrote = subst (λ (h : DataHead). Wrote (write_causes h a.body.now a.out.now) (data_left h a.body.now a.out.now) a.out.now c.write_data-written.result c.write_data-written.new.out) c.head-h.ensures c.write_data-written.ensures in
-    let w = sent limit a.s (head_of a.s a.destination a.source a.tag) a.body.now a.out.now went listed n wrote (sym c.is_done.ensures ∙ c.if-not-is_done.false) in
+    let wrote = subst (λ (h : DataHead). Wrote (write_causes h a.body.now a.out.now) (data_left h a.body.now a.out.now) a.out.now c.write_data.result c.write_data.new.out) c.head-h.ensures c.write_data.ensures in
+    let w = sent limit a.s (head_of a.s a.destination a.source a.tag) a.body.now a.out.now went listed n wrote (done _ (sym c.is_err.ensures.value ∙ c.if-is_err.false)) in
     record { step = c.frame-stepped.ensures ∙ w.step; bytes = w.bytes }

@@ -1,15 +1,13 @@
 -- Before a turn the records before place i are as the call leaves them, and those from it on as they were. Assumes nothing.
-use Rattle.std.proofs.Common.{◌-◌, ◌≡◌, ◌≤◌}
+use Rattle.std.proofs.Common.{◌≡◌, ◌≤◌}
 use Rattle.port_rows.specs.Records.{left_step}
 use Rattle.port_list.proofs.Leave.{folded}
+use Rattle.port.specs.Walk.{walk_from, walk_to}
 use Rattle.port.proofs.leaves.left.Given as goal
 
 abbrev pub invariant-loop-i : goal.invariant-loop-i
 invariant-loop-i l = record {
-  ordered : l.i ≤ l.n;
-  within : l.n ≤ 32;
+  from : walk_from l.d ≤ l.i;
+  ordered : l.i ≤ walk_to l.d;
   so_far : l.list ≡ folded left_step l.fn.list l.d l.i;
 }
-
-abbrev pub decreases-loop-i : goal.decreases-loop-i
-decreases-loop-i l = l.n - l.i

@@ -10,25 +10,25 @@ use Rattle.sonerwal.proofs.frames.sonerwal_open_read.Goals as goal
 
 pub overflow_cast-features : goal.overflow_cast-features
 overflow_cast-features c =
-    let listed : Listed c.in-Frame.f.head = read_listed c.args.frame.now c.in-Frame.f (sym c.read_open.ensures ∙ c.in-Frame.is) in
+    let listed : Listed c.in-Ok.f.head = read_listed c.args.frame.now c.in-Ok.f (sym c.read_open.ensures ∙ c.in-Ok.is) in
     let l = listed in omega (arith, l.features, l.most)
 
 pub overflow_cast-rate : goal.overflow_cast-rate
 overflow_cast-rate c =
-    let listed : Listed c.in-Frame.f.head = read_listed c.args.frame.now c.in-Frame.f (sym c.read_open.ensures ∙ c.in-Frame.is) in
+    let listed : Listed c.in-Ok.f.head = read_listed c.args.frame.now c.in-Ok.f (sym c.read_open.ensures ∙ c.in-Ok.is) in
     let l = listed in omega (arith, l.features, l.most)
 
-pub returns-in-Frame : goal.returns-in-Frame
-returns-in-Frame c =
+pub returns-in-Ok : goal.returns-in-Ok
+returns-in-Ok c =
     let lent : OpenFrame =
     let a = c.args in
     open9 a.initiator.now a.protocol.now a.features.now a.rate.now a.tag.now a.destination.now a.source.now a.pbc.now a.awt.now in
-    open_read c.args.frame.now (lent) (sym c.in-Frame.is ∙ c.read_open.ensures)
+    open_read c.args.frame.now (lent) (sym c.in-Ok.is ∙ c.read_open.ensures)
 
-pub returns-in-Refused : goal.returns-in-Refused
-returns-in-Refused c =
+pub returns-in-Err : goal.returns-in-Err
+returns-in-Err c =
     let lent : OpenFrame =
     let a = c.args in
     open9 a.initiator.now a.protocol.now a.features.now a.rate.now a.tag.now a.destination.now a.source.now a.pbc.now a.awt.now in
-    let w = open_read c.args.frame.now (lent) (sym c.in-Refused.is ∙ c.read_open.ensures) in
-    record { answer = c.number.ensures ∙ w.answer; leaves = w.leaves }
+    let w = open_read c.args.frame.now (lent) (sym c.in-Err.is ∙ c.read_open.ensures) in
+    record { answer = c.from.ensures ∙ w.answer; leaves = w.leaves }

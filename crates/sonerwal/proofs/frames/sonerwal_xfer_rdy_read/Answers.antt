@@ -5,13 +5,13 @@ use Rattle.sonerwal.specs.Face.{xfer8}
 use Rattle.sonerwal.proofs.Laws.{xfer_read}
 use Rattle.sonerwal.proofs.frames.sonerwal_xfer_rdy_read.Goals as goal
 
-pub returns-in-Frame : goal.returns-in-Frame
-returns-in-Frame c =
+pub returns-in-Ok : goal.returns-in-Ok
+returns-in-Ok c =
     let lent : XferHead = let a = c.args in xfer8 a.destination.now a.source.now a.retransmit.now a.retry.now a.tag.now a.transfer.now a.offset.now a.length.now in
-    xfer_read c.args.frame.now (lent) (sym c.in-Frame.is ∙ c.read_xfer_rdy.ensures)
+    xfer_read c.args.frame.now (lent) (sym c.in-Ok.is ∙ c.read_xfer_rdy.ensures)
 
-pub returns-in-Refused : goal.returns-in-Refused
-returns-in-Refused c =
+pub returns-in-Err : goal.returns-in-Err
+returns-in-Err c =
     let lent : XferHead = let a = c.args in xfer8 a.destination.now a.source.now a.retransmit.now a.retry.now a.tag.now a.transfer.now a.offset.now a.length.now in
-    let w = xfer_read c.args.frame.now (lent) (sym c.in-Refused.is ∙ c.read_xfer_rdy.ensures) in
-    record { answer = c.number.ensures ∙ w.answer; leaves = w.leaves }
+    let w = xfer_read c.args.frame.now (lent) (sym c.in-Err.is ∙ c.read_xfer_rdy.ensures) in
+    record { answer = c.from.ensures ∙ w.answer; leaves = w.leaves }

@@ -1,12 +1,12 @@
 -- Each way out of `write_response` is a way out of a frame's writer; the last two write the front, and lend the part behind it
 -- where there is data. Assumes nothing.
+use Rattle.std.specs.Prelude.{Ok}
 use mathlib.Core.Path.{◌≡◌, refl, ◌∙◌, ap, sym}
 use mathlib.Core.List.{◌++◌}
 use mathlib.Core.Bool.{true}
 use Prim.Native.Nat.{ℕ, ◌+◌}
 use lib.ListN.{length, drop, replicate}
 use Rattle.refusals.specs.Causes.{Wrote}
-use Rattle.refusals.specs.declared.Written.TheVariants.{Done}
 use Rattle.refusals.proofs.Frames.{wrote_done}
 use Rattle.ssp_frame.specs.Response.{response_front, response_left, response_sized, response_listed, write_causes}
 use Rattle.ssp_frame.proofs.Payload.{framed}
@@ -16,7 +16,7 @@ pub returns-then-n-ne0 : goal.returns-then-n-ne0
 returns-then-n-ne0 c =
     let sized : let a = c.args in response_sized a.h.present (length a.body.now) (length a.out.now) ≡ true = sym c.response_sized.ensures ∙ c.if-not-response_sized.false in
     let listed : response_listed c.args.h ≡ true = sym c.response_listed.ensures ∙ c.if-not-response_listed.false in
-    let done : let a = c.args in let new = response_left a.h a.body.now a.out.now in Wrote (write_causes a.h a.body.now a.out.now) new a.out.now Done new =
+    let done : let a = c.args in let new = response_left a.h a.body.now a.out.now in Wrote (write_causes a.h a.body.now a.out.now) new a.out.now (Ok tt) new =
     let a = c.args in
     wrote_done (response_left a.h a.body.now a.out.now) a.out.now (sized) (listed) in
     let a = c.args in

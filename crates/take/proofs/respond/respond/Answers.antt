@@ -8,14 +8,14 @@ use Rattle.take.proofs.respond.respond.Goals as goal
 pub returns-then-not-response_sized : goal.returns-then-not-response_sized
 returns-then-not-response_sized c =
     let a = c.args in
-    let own = response_head a.s a.destination a.source a.tag a.present a.status in
+    let own = response_head a.s a.command.destination a.command.source a.command.tag a.present a.status in
     let w = short a.s own a.body.now a.out.now (sym c.response_sized.ensures ∙ c.if-not-response_sized.true) in
     record { step = c.refused.ensures ∙ w.step; bytes = w.bytes }
 
 pub returns-then-not-response_listed : goal.returns-then-not-response_listed
 returns-then-not-response_listed c =
     let a = c.args in
-    let own = response_head a.s a.destination a.source a.tag a.present a.status in
+    let own = response_head a.s a.command.destination a.command.source a.command.tag a.present a.status in
     let room : response_sized a.present (length a.body.now) (length a.out.now) ≡ true = sym c.response_sized.ensures ∙ c.if-not-response_sized.false in
     let tested : c.response_listed.result ≡ response_listed own = c.response_listed.ensures ∙ ap response_listed c.response_head-h.ensures in
     let w = unlisted a.s own a.body.now a.out.now room (sym tested ∙ c.if-not-response_listed.true) in
@@ -24,7 +24,7 @@ returns-then-not-response_listed c =
 pub returns-then-not-is_sent : goal.returns-then-not-is_sent
 returns-then-not-is_sent c =
     let a = c.args in
-    let own = response_head a.s a.destination a.source a.tag a.present a.status in
+    let own = response_head a.s a.command.destination a.command.source a.command.tag a.present a.status in
     let room : response_sized a.present (length a.body.now) (length a.out.now) ≡ true = sym c.response_sized.ensures ∙ c.if-not-response_sized.false in
     let tested : c.response_listed.result ≡ response_listed own = c.response_listed.ensures ∙ ap response_listed c.response_head-h.ensures in
     not_sent a.s own a.body.now a.out.now room (sym tested ∙ c.if-not-response_listed.false) c.respond-stepped.ensures
@@ -33,7 +33,7 @@ returns-then-not-is_sent c =
 pub returns : goal.returns
 returns c =
     let a = c.args in
-    let own = response_head a.s a.destination a.source a.tag a.present a.status in
+    let own = response_head a.s a.command.destination a.command.source a.command.tag a.present a.status in
     let room : response_sized a.present (length a.body.now) (length a.out.now) ≡ true = sym c.response_sized.ensures ∙ c.if-not-response_sized.false in
     let tested : c.response_listed.result ≡ response_listed own = c.response_listed.ensures ∙ ap response_listed c.response_head-h.ensures in
     sent a.s own a.body.now a.out.now room (sym tested ∙ c.if-not-response_listed.false) c.respond-stepped.ensures

@@ -3,12 +3,12 @@ use Rattle.transfer.specs.Steps.{limit, refused, answered, nacked, answer_causes
 use Rattle.refusals.proofs.Causes.{goes_on, stops}
 use Rattle.transfer.proofs.Transfer.nak.Goals as goal
 
-pub returns-in-Refused : goal.returns-in-Refused
+pub returns-in-Err : goal.returns-in-Err
 unfolding nak_step
-returns-in-Refused c = let s = c.args.self in
-    stops (refused s) (nacked (answered s)) (answer_causes limit s) c.answer_checked-checked.ensures c.in-Refused.is c.refused.ensures
+returns-in-Err c = let s = c.args.self in
+    stops (refused s) (nacked (answered s)) (answer_causes limit s) c.answer_checked.ensures c.in-Err.is c.refused.ensures
 
-pub returns-in-Passed : goal.returns-in-Passed
+pub returns : goal.returns
 unfolding nak_step
-returns-in-Passed c = let s = c.args.self in
-    goes_on (refused s) (nacked (answered s)) (answer_causes limit s) c.answer_checked-checked.ensures c.in-Passed.is c.nacked.ensures
+returns c = let s = c.args.self in
+    goes_on (refused s) (nacked (answered s)) (answer_causes limit s) c.answer_checked.ensures c.in_default.is c.nacked.ensures

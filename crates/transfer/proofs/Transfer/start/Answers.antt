@@ -13,4 +13,4 @@ returns-then-unfinished c = rw (← c.in_range.ensures, ← c.keeps_rules.ensure
 
 pub returns : goal.returns
 unfolding start_step
-returns c = rw (← c.in_range.ensures, ← c.keeps_rules.ensures, c.if-in_range-keeps_rules.false, sym c.unfinished.ensures ∙ c.if-unfinished.false) c.in_phase.ensures
+returns c = rw (← c.in_range.ensures, ← c.keeps_rules.ensures, c.if-in_range-keeps_rules.false, sym c.unfinished.ensures ∙ c.if-unfinished.false) (rw c.unstarted.ensures at c.in_phase.ensures)

@@ -4,19 +4,19 @@ use Rattle.transfer.specs.Steps.{limit, refused, dropped, answer_causes, drop_st
 use Rattle.refusals.proofs.Causes.{goes_on, stops}
 use Rattle.transfer.proofs.Transfer.timeout.Goals as goal
 
-pub returns-in-Refused : goal.returns-in-Refused
+pub returns-in-Err : goal.returns-in-Err
 unfolding drop_step dropped
-returns-in-Refused c = let s = c.args.self in
-    stops (refused s) (dropped s) (answer_causes limit s) c.answer_checked-checked.ensures c.in-Refused.is c.refused.ensures
+returns-in-Err c = let s = c.args.self in
+    stops (refused s) (dropped s) (answer_causes limit s) c.answer_checked.ensures c.in-Err.is c.refused.ensures
 
 pub returns-then-self : goal.returns-then-self
 unfolding drop_step dropped
 returns-then-self c =
     let s = c.args.self in
-    goes_on (refused s) (dropped s) (answer_causes limit s) c.answer_checked-checked.ensures c.in-Passed.is (rw (le-leb _ _ c.if-self.true) c.in_phase.ensures)
+    goes_on (refused s) (dropped s) (answer_causes limit s) c.answer_checked.ensures c.in_default.is (rw (le-leb _ _ c.if-self.true) c.in_phase.ensures)
 
-pub returns-in-Passed : goal.returns-in-Passed
+pub returns : goal.returns
 unfolding drop_step dropped
-returns-in-Passed c =
+returns c =
     let s = c.args.self in
-    goes_on (refused s) (dropped s) (answer_causes limit s) c.answer_checked-checked.ensures c.in-Passed.is (rw (lt-leb _ _ c.if-self.false) c.resent.ensures)
+    goes_on (refused s) (dropped s) (answer_causes limit s) c.answer_checked.ensures c.in_default.is (rw (lt-leb _ _ c.if-self.false) c.resent.ensures)

@@ -1,4 +1,5 @@
 -- A tag that is out of the set is added by its bit. Assumes nothing.
+use Rattle.std.specs.Prelude.{Ok}
 use Prim.Native.Nat.{◌+◌, ◌^◌}
 use mathlib.Core.Path.{◌≡◌, ap, ◌∙◌}
 use lib.Bits.{bit_or}
@@ -13,4 +14,4 @@ returns c =
     let s = c.args.self in
     let t = c.args.tag in
     let adds : bit_or s.tags c.alone.result ≡ s.tags + 2 ^ t = ap (bit_or s.tags) c.alone.ensures ∙ or_adds s.tags t c.requires.1 in
-    c.in_phase.ensures ∙ (λ i. say Answer.Sent (with s s.next t (adds i) s.used Phase.Wait))
+    c.in_phase.ensures ∙ (λ i. say (Ok Answer.Sent) (with s s.next t (adds i) s.used Phase.Wait))
