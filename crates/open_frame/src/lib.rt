@@ -156,13 +156,11 @@ pub fn write_open(f: OpenFrame, out: &mut [u8]) -> Result<(), Refusal>
     if out.len() != 28 {
         return Err(Refusal::Length);
     }
-    let head = f.head;
-    if head_listed(head) {
-        put_open(f, out);
-        Ok(())
-    } else {
-        Err(Refusal::Unlisted)
+    if !head_listed(f.head) {
+        return Err(Refusal::Unlisted);
     }
+    put_open(f, out);
+    Ok(())
 }
 
 // The wait value of elapsed microseconds.

@@ -1,13 +1,29 @@
--- The test of a scan is the rules: one pass tests all that they test. Assumes nothing.
-use mathlib.Core.Path.{◌≡◌}
+-- What a scan finds is what the call's definition speaks of: one pass tests all that the rules test, and what the call looks for is what
+-- its core is given. Assumes nothing.
+use mathlib.Core.Path.{◌≡◌, refl}
 use mathlib.Core.List.{List}
 use Rattle.laws.proofs.Folds.{fold_both}
 use Rattle.port_parts.specs.Parts.{blank}
 use Rattle.port_parts.specs.declared.Port.{Port}
 use Rattle.port_parts.specs.declared.Request.{Request}
 use Rattle.port_rules.specs.Rules.{port_rule, request_rule, apart_from, compared_of, rules}
-use Rattle.port.specs.Scans.{kept_to}
+use Rattle.port_rows.specs.Finds.{room_of, slot_of}
+use Rattle.port_rows.specs.Calls.{submit_core, cancel_core, choose_core}
+use Rattle.port_rows.specs.declared.Submission.{Submission}
+use Rattle.port_rows.specs.declared.Withdrawn.{Withdrawn}
+use Rattle.port.specs.Calls.{submit_call, cancel_call, pick_at, choose_call}
+use Rattle.port.specs.Scans.{scanned, asking, finds, kept_to}
+use Rattle.port.specs.declared.Time.{Time}
 
 pub one_pass : (p : Port) (l : List Request) → kept_to p l 32 ≡ rules p l
 unfolding rules
 one_pass p l = fold_both blank (request_rule p) (λ r i. apart_from l (compared_of r i)) (port_rule p) l 32
+
+pub submit_is : (l : List Request) (p : Port) (x : Submission) → scanned asking (finds (λ l p x. room_of l x.head)) (λ f x. f.1.free) (λ p r f x. submit_core p f.0 f.1 x) l p x ≡ submit_call l p x
+submit_is l p x = refl
+
+pub cancel_is : (l : List Request) (p : Port) (x : Withdrawn) → scanned asking (finds (λ l p x. slot_of l x.key)) (λ f x. f.1) (λ p r f x. cancel_core p r f.0 f.1 x) l p x ≡ cancel_call l p x
+cancel_is l p x = refl
+
+pub choose_is : (l : List Request) (p : Port) (x : Time) → scanned asking (finds (λ l p x. pick_at l p x.now)) (λ f x. f.1.slot) (λ p r f x. choose_core p r f.0 f.1 x.now) l p x ≡ choose_call l p x
+choose_is l p x = refl

@@ -2,16 +2,23 @@
 -- its answer names, and no timer. Assumes nothing.
 use Rattle.std.specs.Prelude.{Option, Some, None, is_some}
 use Prim.Native.Nat.{ℕ, suc, ◌<◌, ◌≤◌}
-use mathlib.Core.Path.{◌≡◌, refl, sym}
+use mathlib.Core.Path.{◌≡◌, refl, sym, ap, ◌∙◌}
+use mathlib.Core.List.{List}
 use mathlib.Core.Bool.{Bool, true, false, not, cond, ◌&&◌, ◌||◌}
 use native.Mathlib.Omega.{arith}
 use lib.Dec.{T, eqb, ltb, ltb→lt, nltb→le}
 use borrow.Author.Tests.{ne_eqb}
 use Rattle.laws.proofs.Bools.{never}
+use Rattle.std.proofs.lemmas.List.{ext_get_or, get_or-replicate}
+use Rattle.std.proofs.Math.ListN.{length-replicate}
+use lib.ListN.{length, get_or, replicate}
+use Rattle.laws.proofs.Maps.{map-length, map_at}
+use Rattle.port_parts.specs.Parts.{blank}
 use Rattle.port_parts.specs.declared.Request.{Request}
 use Rattle.port_rows.specs.declared.Done.{Done}
 use Rattle.port_rows.specs.Records.{spread, left_step}
 use Rattle.port_rows.specs.declared.Loss.{Loss}
+use Rattle.port.specs.Calls.{left_of}
 use Rattle.port.specs.Walk.{changes_all, walk_from, walk_to}
 
 -- a record that isn't the one stored, where nothing else changes
@@ -64,3 +71,12 @@ before d r i h = let e = (ends_of d).before i h in let l : i < d.answer.slot = e
 pub behind : (d : Done) (r : Request) (i : ℕ) → walk_to d ≤ i → i < 32 → left_step r i d ≡ r
 unfolding walk_to
 behind d r i h k = let e = (ends_of d).behind i h k in elsewhere d r i e.0 e.1
+
+-- a call that frees all leaves blank records, as many as there are
+pub freed : (l : List Request) (d : Done) → d.cleared ≡ true → length l ≡ 32 → replicate (length l) blank ≡ left_of l d
+freed l d all long =
+    ext_get_or blank (replicate (length l) blank) (left_of l d) (length-replicate (length l) blank ∙ sym (map-length blank (λ r i. left_step r i d) l 32))
+    (λ i h.
+    let here : i < length l = omega (arith, h, length-replicate (length l) blank) in
+    get_or-replicate (length l) i blank blank here
+    ∙ sym (map_at blank (λ r i. left_step r i d) l 32 i (omega arith) (omega arith) ∙ ap (λ (t : Bool). cond t blank (cond (eqb i d.answer.slot) d.entry (spread d.loss (get_or l i blank)))) all))

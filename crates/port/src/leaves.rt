@@ -74,6 +74,11 @@ pub(crate) fn left(list: &mut [Request], d: Done) -> Stepped
     requires { length list.old ≡ 32 }
     ensures { (result ≡ answered d) × (list.new ≡ left_of list.old d) }
 {
+    // Apart from the walk, in which each record would be looked at to be freed.
+    if d.cleared {
+        list.fill(port_parts::blank());
+        return answered(d);
+    }
     for i in walk_from(d)..walk_to(d) {
         list[i] = left_step(list[i], i, d);
     }

@@ -8,9 +8,9 @@ use native.Mathlib.Omega.{arith}
 use native.Mathlib.Numerals.{add-one}
 use mathlib.Core.List.{List, [], ◌∷◌, ◌++◌, append_assoc, append-nil}
 use lib.Dec.{leb, ltb}
-use lib.ListN.{length, get_or, take, drop, replicate, length-append, length-drop, replicate-append-replicate, get_or-append}
+use lib.ListN.{length, get_or, take, drop, set, replicate, length-append, length-set, length-drop, replicate-append-replicate, get_or-append}
 use lib.Arith.{digits_div, digits_mod}
-use lib.Seq.{take_all, drop-drop, get_or-append-add, take-suc, get_or-take, get_or-drop, get_or_at}
+use lib.Seq.{drop-drop, drop-set-lt, drop-cons, get_or-set_same, get_or-append-add, take-suc, get_or-take, get_or-drop, get_or_at}
 use borrow.Author.Tests.{le-leb, lt-leb, ltb-true, ltb-false}
 use borrow.Rule.Slice.PartMut.{put_mid}
 use Rattle.std.specs.Int.{w64, byte_at, bytes_high_first, to_be_bytes, from_be_bytes}
@@ -235,12 +235,22 @@ read_at_end field n r few is =
     ∙ ap (λ (b : List ℕ). be_at b 0 8) (back_tail (8 - n) (replicate 8 0) field)
     ∙ at_end (8 - n) n field (omega arith)
 
--- the last n bytes of v's eight, stored in the part of s from at to e
-pub placed : (s ys : List ℕ) (at n e v : ℕ) → n ≤ 8 → e ≡ at + n → ys ≡ take (8 - (8 - n)) (drop (8 - n) (to_be_bytes w64 v)) → put_mid at (e - at) s ys ≡ written s at n v
-placed s ys at n e v few end is =
+-- the stores of `digits`, last byte first
+abbrev pub stores : List ℕ → ℕ → ℕ → List ℕ
+stores s zero v = s
+stores s (suc n) v = stores (set s n (v % 256)) n (v / 256)
+
+pub stores_are : (s : List ℕ) (n v : ℕ) → n ≤ length s → stores s n v ≡ be_bytes n v ++ drop n s
+stores_are s zero v h = refl
+stores_are s (suc n) v h =
+    let x = v % 256 in
+    let s' = set s n x in
+    let tail : drop n s' ≡ x ∷ drop (suc n) s = drop-cons s' n 0 (omega (arith, length-set s n x)) ∙ rw (get_or-set_same s n x 0 (omega arith), drop-set-lt (suc n) s n x (omega arith)) in
+    stores_are s' n (v / 256) (omega (arith, length-set s n x)) ∙ rw (tail, append_assoc)
+
+-- v's low n bytes, stored in the part of s from at to e
+pub placed : (s ys : List ℕ) (at n e v : ℕ) → e ≡ at + n → ys ≡ be_bytes n v → put_mid at (e - at) s ys ≡ written s at n v
+placed s ys at n e v end field =
     let size : e - at ≡ n = omega arith in
-    let width : 8 - (8 - n) ≡ n = omega arith in
-    let low : drop (8 - n) (to_be_bytes w64 v) ≡ be_bytes n v = ap (drop (8 - n)) (block_written v) ∙ last_bytes (8 - n) n v (omega arith) in
-    let field : ys ≡ be_bytes n v = is ∙ (λ i. take (width i) (low i)) ∙ take_all n (be_bytes n v) (omega (arith, length-be_bytes n v)) in
     (λ i. take at s ++ (field i ++ drop (size i) (drop at s)))
     ∙ ap (λ (z : List ℕ). take at s ++ (be_bytes n v ++ z)) (drop-drop n at s)

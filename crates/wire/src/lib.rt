@@ -2,8 +2,8 @@
 // of a u64, so that the compiler moves a field at once and swaps its bytes in a register.
 #![tactic(auto)]
 
-ghost use Rattle.std.specs.Prelude.{◌≡◌};
-ghost use Rattle.wire.specs.Be.{put_be, Got};
+ghost use Rattle.std.specs.Prelude.{◌≡◌, ◌≤◌, take};
+ghost use Rattle.wire.specs.Be.{be_bytes, put_be, Got};
 
 // The number in the n bytes of s from at on; 0 where they are more than eight or don't lie within s.
 pub fn get_be(s: &[u8], at: usize, n: usize) -> u64
@@ -20,7 +20,24 @@ pub fn get_be(s: &[u8], at: usize, n: usize) -> u64
     };
     let mut number = [0u8; 8];
     number[8 - n..].copy_from_slice(field);
-    u64::from_be_bytes(number)
+    // Named, so that the edit wrong_weight has a number to weigh.
+    let value = u64::from_be_bytes(number);
+    value
+}
+
+// The low n bytes of v, at the front. Divided out one by one: std's to_be_bytes makes a swap of eight bytes and a shift of what the compiler
+// turns into a swap of n here.
+fn digits(n: usize, v: u64) -> [u8; 8]
+    requires { n ≤ 8 }
+    ensures { take n result ≡ be_bytes n v }
+{
+    let mut bytes = [0u8; 8];
+    let mut rest = v;
+    for i in (0..n).rev() {
+        bytes[i] = (rest % 256) as u8;
+        rest /= 256;
+    }
+    bytes
 }
 
 // Writes v's low n bytes into s from at on; every other byte stays, and all of them where the n bytes are more than eight or
@@ -31,12 +48,13 @@ pub fn put_be(s: &mut [u8], at: usize, n: usize, v: u64)
     if 8 < n {
         return;
     }
-    let Some(end) = at.checked_add(n) else {
-        return;
-    };
-    if s.len() < end {
+    if s.len() < n {
         return;
     }
-    let number = v.to_be_bytes();
-    s[at..end].copy_from_slice(&number[8 - n..]);
+    // By the difference: with the sum `at + n` tested in its place, DATA writes miss their goal.
+    if s.len() - n < at {
+        return;
+    }
+    let number = digits(n, v);
+    s[at..at + n].copy_from_slice(&number[..n]);
 }

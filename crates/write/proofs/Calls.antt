@@ -33,9 +33,12 @@ module _ (k : ℕ) (s : Write) (small : s.tags < 2 ^ k) (kept : keeps_rules k s 
   pub ask_placed : asking s.phase ≡ true → placed k s ≡ true
   ask_placed due = (placed_says k s).1 (underway k s (good k s kept small) (ap unfinished (ask_phase s.phase due))).0
 
-  -- and the last XFER_RDY's tag is one of the tags
+  -- the last XFER_RDY's tag is one of the tags, as long as the write is unfinished
+  pub tagged : unfinished s.phase ≡ true → s.tag < k
+  tagged work = under k s (underway k s (good k s kept small) work).0
+
   pub ask_tagged : asking s.phase ≡ true → s.tag < k
-  ask_tagged due = under k s ((placed_says k s).0 (ask_placed due))
+  ask_tagged due = tagged (ap unfinished (ask_phase s.phase due))
 
   -- a free tag that was found is none of the write's own
   pub askable : (others : ℕ) → others < 2 ^ k → asking s.phase ≡ true → {t : ℕ} → t ≡ free k others s → t < k → (t < k) × (digit s.tags t ≡ 0)

@@ -1,6 +1,7 @@
 -- A state is shown as numbers that say it, and numbers that say a state are those that it is shown as: member by member, by the tables of
 -- crate xl_numbers. Assumes nothing.
 use Rattle.xl_parts.specs.declared.Wait.{Wait}
+use Rattle.xl_parts.specs.declared.Action.{Action}
 use Rattle.open_frame.specs.declared.OpenFrame.{OpenFrame}
 use Rattle.std.specs.Prelude.{is_some, None, Option, Some}
 use Prim.Native.Nat.{ℕ, ◌<◌}
@@ -190,7 +191,14 @@ lent_back l ok n =
 
 -- ---- actions
 
--- an action's numbers name it
+-- the numbers of a step's four actions name each of them, in order
+pub four_back : (a b c d : Option Action) → map action_of (coded (a ∷ b ∷ c ∷ d ∷ [])) ≡ Some a ∷ Some b ∷ Some c ∷ Some d ∷ []
+four_back a b c d = λ i. back a i ∷ back b i ∷ back c i ∷ back d i ∷ []
+  where
+    back : (a : Option Action) → action_of (action_number a) ≡ Some a
+    back a = (action_named (action_number a) a).1 refl
+
+-- and so of any list of actions
 pub actions_back : (acts : Actions) → map action_of (coded acts) ≡ map Some acts
 actions_back [] = refl
 actions_back (a ∷ acts) = λ i. (action_named (action_number a) a).1 refl i ∷ actions_back acts i

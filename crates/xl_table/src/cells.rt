@@ -5,7 +5,8 @@ use crate::words::Words;
 use open_frame::OpenFrame;
 use std::fmt;
 use std::fmt::Write;
-use xl_parts::{Actions, Event, Memory, Phase, Seen, State, Stepped, Wait};
+use xl_numbers::states;
+use xl_parts::{Actions, Event, Memory, Phase, State, Stepped};
 
 pub(crate) fn state(phase: Phase, memory: Memory) -> State {
     State {
@@ -15,22 +16,13 @@ pub(crate) fn state(phase: Phase, memory: Memory) -> State {
     }
 }
 
-fn aip_sign(a: Seen) -> char {
-    match a {
-        None => '-',
-        Some(Wait::Normal) => '0',
-        Some(Wait::Partial) => '1',
-        Some(Wait::Connection) => '2',
-        Some(Wait::Device) => '3',
-    }
-}
-
 // A memory as a cell shows it: frames by their tags.
 #[derive(Clone, Copy, PartialEq, Eq)]
 pub(crate) struct Signs {
     held: char,
     heard: char,
-    aip: char,
+    // Its number as C has it: 0 for none, and behind that the kinds from 0 on.
+    aip: u8,
     broke: bool,
     close: bool,
     blocked: bool,
@@ -41,7 +33,7 @@ impl From<Memory> for Signs {
         Signs {
             held: frames::held_sign(m.held),
             heard: frames::held_sign(m.heard),
-            aip: aip_sign(m.aip),
+            aip: states::aip_number(m.aip),
             broke: m.broke,
             close: m.close,
             blocked: m.blocked,
@@ -51,7 +43,11 @@ impl From<Memory> for Signs {
 
 impl fmt::Display for Signs {
     fn fmt<W: fmt::Write>(&self, f: &mut fmt::Formatter<W>) -> fmt::Result {
-        write!(f, "{}{}{}", self.held, self.heard, self.aip)?;
+        write!(f, "{}{}", self.held, self.heard)?;
+        match self.aip.checked_sub(1) {
+            Some(kind) => write!(f, "{kind}")?,
+            None => write!(f, "-")?,
+        }
         let broke = u8::from(self.broke);
         let close = u8::from(self.close);
         let blocked = u8::from(self.blocked);
@@ -70,13 +66,8 @@ fn print_taken(to: &mut Ink, s: State, t: State, a: Actions) -> fmt::Result {
         write!(to, "+")?;
     }
     if !is_still(s, t, a) {
-        return write!(
-            to,
-            "{}/{}/{}",
-            t.phase as u8,
-            Signs::from(t.memory),
-            Words(a)
-        );
+        let number = states::phase_number(t.phase);
+        return write!(to, "{number}/{}/{}", Signs::from(t.memory), Words(a));
     }
     if t.count == s.count {
         write!(to, "=")?;

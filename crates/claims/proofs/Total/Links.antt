@@ -57,6 +57,20 @@ use Rattle.sonerwal.proofs.link.sonerwal_link_receive.Kinds as c-link-receive-of
 use Rattle.sonerwal.proofs.link.sonerwal_link_receive.Reads as c_link_receive
 use Rattle.sonerwal.proofs.link.sonerwal_link_status.Kinds as c-link-status-of
 use Rattle.sonerwal.proofs.link.sonerwal_link_status.Reads as c_link_status
+use Rattle.xl_lent.proofs.StateFromLink.from.Kinds as lent-link-of
+use Rattle.xl_lent.proofs.StateFromLink.from.Reads as lent_link
+use Rattle.xl_lent.proofs.LinkFromState.from.Kinds as link-shown-of
+use Rattle.xl_lent.proofs.LinkFromState.from.Reads as link_shown
+use Rattle.xl_numbers.proofs.codes.CodeFromPrimitive.from.Kinds as primitive-number-of
+use Rattle.xl_numbers.proofs.codes.CodeFromPrimitive.from.Reads as primitive_number
+use Rattle.xl_numbers.proofs.codes.CodeFromMessage.from.Kinds as message-number-of
+use Rattle.xl_numbers.proofs.codes.CodeFromMessage.from.Reads as message_number
+use Rattle.xl_numbers.proofs.codes.CodeFromConfirmation.from.Kinds as confirmation-number-of
+use Rattle.xl_numbers.proofs.codes.CodeFromConfirmation.from.Reads as confirmation_number
+use Rattle.xl_numbers.proofs.codes.CodeFromNotice.from.Kinds as notice-number-of
+use Rattle.xl_numbers.proofs.codes.CodeFromNotice.from.Reads as notice_number
+use Rattle.xl_numbers.proofs.codes.CodeFromBreakEvent.from.Kinds as break-number-of
+use Rattle.xl_numbers.proofs.codes.CodeFromBreakEvent.from.Reads as break_number
 use Rattle.claims.proofs.Calls.{Anything}
 
 pub record Links : Type 2 where
@@ -89,6 +103,13 @@ pub record Links : Type 2 where
   pub c_link_event : Anything 0 c-link-event-of.ps c_link_event.Pre
   pub c_link_receive : Anything 1 c-link-receive-of.ps c_link_receive.Pre
   pub c_link_status : Anything 0 c-link-status-of.ps c_link_status.Pre
+  pub lent_link : Anything 0 lent-link-of.ps lent_link.Pre
+  pub link_shown : Anything 0 link-shown-of.ps link_shown.Pre
+  pub primitive_number : Anything 0 primitive-number-of.ps primitive_number.Pre
+  pub message_number : Anything 0 message-number-of.ps message_number.Pre
+  pub confirmation_number : Anything 0 confirmation-number-of.ps confirmation_number.Pre
+  pub notice_number : Anything 0 notice-number-of.ps notice_number.Pre
+  pub break_number : Anything 0 break-number-of.ps break_number.Pre
 
 pub links : Links
 links = record {
@@ -121,4 +142,11 @@ links = record {
   c_link_event = λ κs a. tt;
   c_link_receive = λ κs a. tt;
   c_link_status = λ κs a. tt;
+  lent_link = λ κs a. tt;
+  link_shown = λ κs a. tt;
+  primitive_number = λ κs a. tt;
+  message_number = λ κs a. tt;
+  confirmation_number = λ κs a. tt;
+  notice_number = λ κs a. tt;
+  break_number = λ κs a. tt;
 }

@@ -114,6 +114,10 @@ use Rattle.sonerwal.specs.contracts.ports.sonerwal_port_frame_status as face_fra
 use Rattle.sonerwal.specs.contracts.ports.sonerwal_port_closed as face_closed
 use Rattle.sonerwal.specs.contracts.ports.sonerwal_port_enable as face_enable
 use Rattle.sonerwal.specs.contracts.ports.sonerwal_port_disable as face_disable
+use Rattle.port_lent.proofs.Port_partsPhyFromPhy.from.Kinds as lent-phy-of
+use Rattle.port_lent.proofs.Port_partsPhyFromPhy.from.Reads as lent_phy
+use Rattle.port_lent.proofs.PhyFromPort_partsPhy.from.Kinds as phy-shown-of
+use Rattle.port_lent.proofs.PhyFromPort_partsPhy.from.Reads as phy_shown
 use Rattle.claims.proofs.Calls.{Anything}
 use Rattle.claims.proofs.Walked.{AsksNothing}
 
@@ -185,6 +189,8 @@ pub record Ports : Type 2 where
   pub face_closed : AsksNothing face_closed.ended (λ M 𝓤. face_closed.spec)
   pub face_enable : AsksNothing face_enable.ended (λ M 𝓤. face_enable.spec)
   pub face_disable : AsksNothing face_disable.ended (λ M 𝓤. face_disable.spec)
+  pub lent_phy : Anything 0 lent-phy-of.ps lent_phy.Pre
+  pub phy_shown : Anything 0 phy-shown-of.ps phy_shown.Pre
 
 pub ports : Ports
 ports = record {
@@ -255,4 +261,6 @@ ports = record {
   face_closed = λ w κs a. (tt, refl);
   face_enable = λ w κs a. (tt, refl);
   face_disable = λ w κs a. (tt, refl);
+  lent_phy = λ κs a. tt;
+  phy_shown = λ κs a. tt;
 }

@@ -63,6 +63,10 @@ use Rattle.sonerwal.proofs.replies.sonerwal_reply_nexus.Kinds as c-nexus-of
 use Rattle.sonerwal.proofs.replies.sonerwal_reply_nexus.Reads as c_nexus
 use Rattle.sonerwal.proofs.replies.sonerwal_reply_cancel.Kinds as c-cancel-of
 use Rattle.sonerwal.proofs.replies.sonerwal_reply_cancel.Reads as c_cancel
+use Rattle.reply_lent.proofs.lent.ReplyFromState.from.Kinds as lent-reply-of
+use Rattle.reply_lent.proofs.lent.ReplyFromState.from.Reads as lent_reply
+use Rattle.reply_lent.proofs.lent.StateFromReply.from.Kinds as reply-shown-of
+use Rattle.reply_lent.proofs.lent.StateFromReply.from.Reads as reply_shown
 use Rattle.claims.proofs.Calls.{Anything}
 
 pub record Reply : Type 2 where
@@ -98,6 +102,8 @@ pub record Reply : Type 2 where
   pub c_lost : Anything 0 c-lost-of.ps c_lost.Pre
   pub c_nexus : Anything 0 c-nexus-of.ps c_nexus.Pre
   pub c_cancel : Anything 0 c-cancel-of.ps c_cancel.Pre
+  pub lent_reply : Anything 0 lent-reply-of.ps lent_reply.Pre
+  pub reply_shown : Anything 0 reply-shown-of.ps reply_shown.Pre
 
 pub reply : Reply
 reply = record {
@@ -133,4 +139,6 @@ reply = record {
   c_lost = λ κs a. tt;
   c_nexus = λ κs a. tt;
   c_cancel = λ κs a. tt;
+  lent_reply = λ κs a. tt;
+  reply_shown = λ κs a. tt;
 }

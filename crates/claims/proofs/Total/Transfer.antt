@@ -71,6 +71,10 @@ use Rattle.sonerwal.proofs.transfers.sonerwal_transfer_next.Kinds as c-next-of
 use Rattle.sonerwal.proofs.transfers.sonerwal_transfer_next.Reads as c_next
 use Rattle.sonerwal.proofs.transfers.sonerwal_transfer_length.Kinds as c-length-of
 use Rattle.sonerwal.proofs.transfers.sonerwal_transfer_length.Reads as c_length
+use Rattle.transfer_lent.proofs.lent.TransferFromState.from.Kinds as lent-transfer-of
+use Rattle.transfer_lent.proofs.lent.TransferFromState.from.Reads as lent_transfer
+use Rattle.transfer_lent.proofs.lent.StateFromTransfer.from.Kinds as transfer-shown-of
+use Rattle.transfer_lent.proofs.lent.StateFromTransfer.from.Reads as transfer_shown
 use Rattle.claims.proofs.Calls.{Anything}
 
 pub record Transfer : Type 2 where
@@ -110,6 +114,8 @@ pub record Transfer : Type 2 where
   pub c_cancel : Anything 0 c-cancel-of.ps c_cancel.Pre
   pub c_next : Anything 2 c-next-of.ps c_next.Pre
   pub c_length : Anything 0 c-length-of.ps c_length.Pre
+  pub lent_transfer : Anything 0 lent-transfer-of.ps lent_transfer.Pre
+  pub transfer_shown : Anything 0 transfer-shown-of.ps transfer_shown.Pre
 
 pub transfer : Transfer
 transfer = record {
@@ -149,4 +155,6 @@ transfer = record {
   c_cancel = λ κs a. tt;
   c_next = λ κs a. tt;
   c_length = λ κs a. tt;
+  lent_transfer = λ κs a. tt;
+  transfer_shown = λ κs a. tt;
 }

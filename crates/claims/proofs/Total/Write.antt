@@ -89,6 +89,10 @@ use Rattle.sonerwal.proofs.writes.sonerwal_write_ask.Kinds as c-ask-of
 use Rattle.sonerwal.proofs.writes.sonerwal_write_ask.Reads as c_ask
 use Rattle.sonerwal.proofs.writes.sonerwal_write_take.Kinds as c-take-of
 use Rattle.sonerwal.proofs.writes.sonerwal_write_take.Reads as c_take
+use Rattle.write_lent.proofs.lent.WriteFromState.from.Kinds as lent-write-of
+use Rattle.write_lent.proofs.lent.WriteFromState.from.Reads as lent_write
+use Rattle.write_lent.proofs.lent.StateFromWrite.from.Kinds as write-shown-of
+use Rattle.write_lent.proofs.lent.StateFromWrite.from.Reads as write_shown
 use Rattle.claims.proofs.Calls.{Anything}
 
 pub record Write : Type 2 where
@@ -137,6 +141,8 @@ pub record Write : Type 2 where
   pub c_cancel : Anything 0 c-cancel-of.ps c_cancel.Pre
   pub c_ask : Anything 1 c-ask-of.ps c_ask.Pre
   pub c_take : Anything 2 c-take-of.ps c_take.Pre
+  pub lent_write : Anything 0 lent-write-of.ps lent_write.Pre
+  pub write_shown : Anything 0 write-shown-of.ps write_shown.Pre
 
 pub write : Write
 write = record {
@@ -185,4 +191,6 @@ write = record {
   c_cancel = λ κs a. tt;
   c_ask = λ κs a. tt;
   c_take = λ κs a. tt;
+  lent_write = λ κs a. tt;
+  write_shown = λ κs a. tt;
 }

@@ -58,6 +58,20 @@ use Rattle.sonerwal.proofs.link.sonerwal_link_receive.Kinds as c-link-receive-of
 use Rattle.sonerwal.proofs.link.sonerwal_link_receive.Reads as c_link_receive
 use Rattle.sonerwal.proofs.link.sonerwal_link_status.Kinds as c-link-status-of
 use Rattle.sonerwal.proofs.link.sonerwal_link_status.Reads as c_link_status
+use Rattle.xl_lent.proofs.StateFromLink.from.Kinds as lent-link-of
+use Rattle.xl_lent.proofs.StateFromLink.from.Reads as lent_link
+use Rattle.xl_lent.proofs.LinkFromState.from.Kinds as link-shown-of
+use Rattle.xl_lent.proofs.LinkFromState.from.Reads as link_shown
+use Rattle.xl_numbers.proofs.codes.CodeFromPrimitive.from.Kinds as primitive-number-of
+use Rattle.xl_numbers.proofs.codes.CodeFromPrimitive.from.Reads as primitive_number
+use Rattle.xl_numbers.proofs.codes.CodeFromMessage.from.Kinds as message-number-of
+use Rattle.xl_numbers.proofs.codes.CodeFromMessage.from.Reads as message_number
+use Rattle.xl_numbers.proofs.codes.CodeFromConfirmation.from.Kinds as confirmation-number-of
+use Rattle.xl_numbers.proofs.codes.CodeFromConfirmation.from.Reads as confirmation_number
+use Rattle.xl_numbers.proofs.codes.CodeFromNotice.from.Kinds as notice-number-of
+use Rattle.xl_numbers.proofs.codes.CodeFromNotice.from.Reads as notice_number
+use Rattle.xl_numbers.proofs.codes.CodeFromBreakEvent.from.Kinds as break-number-of
+use Rattle.xl_numbers.proofs.codes.CodeFromBreakEvent.from.Reads as break_number
 use Rattle.claims.proofs.Calls.{One, none}
 
 pub record Links : Type 2 where
@@ -90,6 +104,13 @@ pub record Links : Type 2 where
   pub c_link_event : One 0 c-link-event-of.ps c-link-event-of.r (none 0 c-link-event-of.ps c-link-event-of.r) c_link_event.Post
   pub c_link_receive : One 1 c-link-receive-of.ps c-link-receive-of.r (none 1 c-link-receive-of.ps c-link-receive-of.r) c_link_receive.Post
   pub c_link_status : One 0 c-link-status-of.ps c-link-status-of.r (none 0 c-link-status-of.ps c-link-status-of.r) c_link_status.Post
+  pub lent_link : One 0 lent-link-of.ps lent-link-of.r (none 0 lent-link-of.ps lent-link-of.r) lent_link.Post
+  pub link_shown : One 0 link-shown-of.ps link-shown-of.r (none 0 link-shown-of.ps link-shown-of.r) link_shown.Post
+  pub primitive_number : One 0 primitive-number-of.ps primitive-number-of.r (none 0 primitive-number-of.ps primitive-number-of.r) primitive_number.Post
+  pub message_number : One 0 message-number-of.ps message-number-of.r (none 0 message-number-of.ps message-number-of.r) message_number.Post
+  pub confirmation_number : One 0 confirmation-number-of.ps confirmation-number-of.r (none 0 confirmation-number-of.ps confirmation-number-of.r) confirmation_number.Post
+  pub notice_number : One 0 notice-number-of.ps notice-number-of.r (none 0 notice-number-of.ps notice-number-of.r) notice_number.Post
+  pub break_number : One 0 break-number-of.ps break-number-of.r (none 0 break-number-of.ps break-number-of.r) break_number.Post
 
 pub links : Links
 links = record {
@@ -122,4 +143,11 @@ links = record {
   c_link_event = λ κs a x y s t p q. (p ∙ sym q, refl);
   c_link_receive = λ κs a x y s t p q. (p ∙ sym q, refl);
   c_link_status = λ κs a x y s t p q. (p ∙ sym q, refl);
+  lent_link = λ κs a x y s t p q. (p ∙ sym q, refl);
+  link_shown = λ κs a x y s t p q. (p ∙ sym q, refl);
+  primitive_number = λ κs a x y s t p q. (p ∙ sym q, refl);
+  message_number = λ κs a x y s t p q. (p ∙ sym q, refl);
+  confirmation_number = λ κs a x y s t p q. (p ∙ sym q, refl);
+  notice_number = λ κs a x y s t p q. (p ∙ sym q, refl);
+  break_number = λ κs a x y s t p q. (p ∙ sym q, refl);
 }

@@ -116,6 +116,10 @@ use Rattle.sonerwal.specs.contracts.ports.sonerwal_port_closed as face_closed
 use Rattle.sonerwal.specs.contracts.ports.sonerwal_port_enable as face_enable
 use Rattle.sonerwal.specs.contracts.ports.sonerwal_port_disable as face_disable
 use Rattle.port_lent.specs.Lent as lent
+use Rattle.port_lent.proofs.Port_partsPhyFromPhy.from.Kinds as lent-phy-of
+use Rattle.port_lent.proofs.Port_partsPhyFromPhy.from.Reads as lent_phy
+use Rattle.port_lent.proofs.PhyFromPort_partsPhy.from.Kinds as phy-shown-of
+use Rattle.port_lent.proofs.PhyFromPort_partsPhy.from.Reads as phy_shown
 use Rattle.claims.proofs.Calls.{One, none}
 use Rattle.claims.proofs.Walked.{OneEnd}
 use Rattle.claims.proofs.Ports.{ports as port-claims}
@@ -189,6 +193,8 @@ pub record Ports : Type 2 where
   pub face_closed : OneEnd face_closed.ended (λ M 𝓤. face_closed.spec) (λ κs e. e.0.now)
   pub face_enable : OneEnd face_enable.ended (λ M 𝓤. face_enable.spec) (λ κs e. e.0.now)
   pub face_disable : OneEnd face_disable.ended (λ M 𝓤. face_disable.spec) (λ κs e. e.0.now)
+  pub lent_phy : One 0 lent-phy-of.ps lent-phy-of.r (none 0 lent-phy-of.ps lent-phy-of.r) lent_phy.Post
+  pub phy_shown : One 0 phy-shown-of.ps phy-shown-of.r (none 0 phy-shown-of.ps phy-shown-of.r) phy_shown.Post
 
 pub ports : Ports
 ports = record {
@@ -259,4 +265,6 @@ ports = record {
   face_closed = (_, (port_face.face_closed, λ κs a x y s t p q. (p.0 ∙ sym q.0, p.1 ∙ sym q.1)));
   face_enable = (_, (port_face.face_enable, λ κs a x y s t p q. (p.0 ∙ sym q.0, p.1 ∙ sym q.1)));
   face_disable = (_, (port_face.face_disable, λ κs a x y s t p q. (p.0 ∙ sym q.0, p.1 ∙ sym q.1)));
+  lent_phy = λ κs a x y s t p q. (p ∙ sym q, refl);
+  phy_shown = λ κs a x y s t p q. (p ∙ sym q, refl);
 }

@@ -69,6 +69,10 @@ use Rattle.sonerwal.proofs.replies.sonerwal_reply_nexus.Kinds as c-nexus-of
 use Rattle.sonerwal.proofs.replies.sonerwal_reply_nexus.Reads as c_nexus
 use Rattle.sonerwal.proofs.replies.sonerwal_reply_cancel.Kinds as c-cancel-of
 use Rattle.sonerwal.proofs.replies.sonerwal_reply_cancel.Reads as c_cancel
+use Rattle.reply_lent.proofs.lent.ReplyFromState.from.Kinds as lent-reply-of
+use Rattle.reply_lent.proofs.lent.ReplyFromState.from.Reads as lent_reply
+use Rattle.reply_lent.proofs.lent.StateFromReply.from.Kinds as reply-shown-of
+use Rattle.reply_lent.proofs.lent.StateFromReply.from.Reads as reply_shown
 use Rattle.claims.proofs.Calls.{One, none}
 use Rattle.claims.proofs.ReplyCalls.{behind5}
 
@@ -114,6 +118,8 @@ pub record Reply : Type 2 where
   pub c_lost : One 0 c-lost-of.ps c-lost-of.r (none 0 c-lost-of.ps c-lost-of.r) c_lost.Post
   pub c_nexus : One 0 c-nexus-of.ps c-nexus-of.r (none 0 c-nexus-of.ps c-nexus-of.r) c_nexus.Post
   pub c_cancel : One 0 c-cancel-of.ps c-cancel-of.r (none 0 c-cancel-of.ps c-cancel-of.r) c_cancel.Post
+  pub lent_reply : One 0 lent-reply-of.ps lent-reply-of.r (none 0 lent-reply-of.ps lent-reply-of.r) lent_reply.Post
+  pub reply_shown : One 0 reply-shown-of.ps reply-shown-of.r (none 0 reply-shown-of.ps reply-shown-of.r) reply_shown.Post
 
 pub reply : Reply
 reply = record {
@@ -149,4 +155,6 @@ reply = record {
   c_lost = λ κs a x y s t p q. (p ∙ sym q, refl);
   c_nexus = λ κs a x y s t p q. (p ∙ sym q, refl);
   c_cancel = λ κs a x y s t p q. (p ∙ sym q, refl);
+  lent_reply = λ κs a x y s t p q. (p ∙ sym q, refl);
+  reply_shown = λ κs a x y s t p q. (p ∙ sym q, refl);
 }

@@ -77,6 +77,10 @@ use Rattle.sonerwal.proofs.transfers.sonerwal_transfer_next.Kinds as c-next-of
 use Rattle.sonerwal.proofs.transfers.sonerwal_transfer_next.Reads as c_next
 use Rattle.sonerwal.proofs.transfers.sonerwal_transfer_length.Kinds as c-length-of
 use Rattle.sonerwal.proofs.transfers.sonerwal_transfer_length.Reads as c_length
+use Rattle.transfer_lent.proofs.lent.TransferFromState.from.Kinds as lent-transfer-of
+use Rattle.transfer_lent.proofs.lent.TransferFromState.from.Reads as lent_transfer
+use Rattle.transfer_lent.proofs.lent.StateFromTransfer.from.Kinds as transfer-shown-of
+use Rattle.transfer_lent.proofs.lent.StateFromTransfer.from.Reads as transfer_shown
 use Rattle.claims.proofs.Calls.{One, none}
 use Rattle.claims.proofs.Named.{behind3}
 
@@ -126,6 +130,8 @@ pub record Transfer : Type 2 where
   pub c_cancel : One 0 c-cancel-of.ps c-cancel-of.r (none 0 c-cancel-of.ps c-cancel-of.r) c_cancel.Post
   pub c_next : One 2 c-next-of.ps c-next-of.r c_next_left c_next.Post
   pub c_length : One 0 c-length-of.ps c-length-of.r (none 0 c-length-of.ps c-length-of.r) c_length.Post
+  pub lent_transfer : One 0 lent-transfer-of.ps lent-transfer-of.r (none 0 lent-transfer-of.ps lent-transfer-of.r) lent_transfer.Post
+  pub transfer_shown : One 0 transfer-shown-of.ps transfer-shown-of.r (none 0 transfer-shown-of.ps transfer-shown-of.r) transfer_shown.Post
 
 pub transfer : Transfer
 transfer = record {
@@ -165,4 +171,6 @@ transfer = record {
   c_cancel = λ κs a x y s t p q. (p ∙ sym q, refl);
   c_next = λ κs a x y s t p q. (p.step ∙ sym q.step, p.bytes ∙ sym q.bytes);
   c_length = λ κs a x y s t p q. (p ∙ sym q, refl);
+  lent_transfer = λ κs a x y s t p q. (p ∙ sym q, refl);
+  transfer_shown = λ κs a x y s t p q. (p ∙ sym q, refl);
 }

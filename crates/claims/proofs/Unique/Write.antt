@@ -95,6 +95,10 @@ use Rattle.sonerwal.proofs.writes.sonerwal_write_ask.Kinds as c-ask-of
 use Rattle.sonerwal.proofs.writes.sonerwal_write_ask.Reads as c_ask
 use Rattle.sonerwal.proofs.writes.sonerwal_write_take.Kinds as c-take-of
 use Rattle.sonerwal.proofs.writes.sonerwal_write_take.Reads as c_take
+use Rattle.write_lent.proofs.lent.WriteFromState.from.Kinds as lent-write-of
+use Rattle.write_lent.proofs.lent.WriteFromState.from.Reads as lent_write
+use Rattle.write_lent.proofs.lent.StateFromWrite.from.Kinds as write-shown-of
+use Rattle.write_lent.proofs.lent.StateFromWrite.from.Reads as write_shown
 use Rattle.claims.proofs.Calls.{One, none}
 use Rattle.claims.proofs.Named.{behind3}
 
@@ -162,6 +166,8 @@ pub record Write : Type 2 where
   pub c_cancel : One 0 c-cancel-of.ps c-cancel-of.r (none 0 c-cancel-of.ps c-cancel-of.r) c_cancel.Post
   pub c_ask : One 1 c-ask-of.ps c-ask-of.r c_ask_left c_ask.Post
   pub c_take : One 2 c-take-of.ps c-take-of.r c_take_left c_take.Post
+  pub lent_write : One 0 lent-write-of.ps lent-write-of.r (none 0 lent-write-of.ps lent-write-of.r) lent_write.Post
+  pub write_shown : One 0 write-shown-of.ps write-shown-of.r (none 0 write-shown-of.ps write-shown-of.r) write_shown.Post
 
 pub write : Write
 write = record {
@@ -210,4 +216,6 @@ write = record {
   c_cancel = λ κs a x y s t p q. (p ∙ sym q, refl);
   c_ask = λ κs a x y s t p q. (p.step ∙ sym q.step, p.bytes ∙ sym q.bytes);
   c_take = λ κs a x y s t p q. (p.step ∙ sym q.step, p.store ∙ sym q.store);
+  lent_write = λ κs a x y s t p q. (p ∙ sym q, refl);
+  write_shown = λ κs a x y s t p q. (p ∙ sym q, refl);
 }

@@ -31,8 +31,9 @@ returns c =
     let width : a.n - 0 ≡ a.n = omega arith in
     let rest : c.in-Some.rest.now ≡ drop a.at s = c.in-Some.ensures.lookup.0.2 ∙ lent_tail a.at s in
     let field : c.copy_from_slice.new.self ≡ take a.n (drop a.at s) = c.copy_from_slice.ensures.after ∙ c.in-Some-get.ensures.lookup.0.2 ∙ (λ i. take (width i) (rest i)) in
-    let is : c.from_be_bytes.result ≡ be_at s a.at a.n =
-    read_at_end c.copy_from_slice.new.self a.n c.from_be_bytes.result c.if-n-gt8.false c.from_be_bytes.ensures
+    let is : c.from_be_bytes-value.result ≡ be_at s a.at a.n =
+    read_at_end c.copy_from_slice.new.self a.n c.from_be_bytes-value.result c.if-n-gt8.false c.from_be_bytes-value.ensures
     ∙ ap (λ (l : List ℕ). be_at l 0 a.n) field
     ∙ be_at_part s a.at a.n a.n (omega arith) in
-    record { number = is ∙ get_in s a.at a.n (fit s a.at a.n c.if-n-gt8.false room); small = omega (arith, is, be_at_lt s a.at a.n (λ i. (c.type_inv.s i).fits)) }
+    let field = get_in s a.at a.n (fit s a.at a.n c.if-n-gt8.false room) in
+    record { number = omega (arith, is, field); small = omega (arith, is, be_at_lt s a.at a.n (λ i. (c.type_inv.s i).fits)) }

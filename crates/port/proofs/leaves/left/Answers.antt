@@ -1,11 +1,11 @@
 -- The records before the walk and behind it stay as they were, and each turn leaves one as `left_step` says. Assumes nothing.
-use Rattle.std.proofs.Common.{ℕ, ◌≡◌, ◌<◌, ◌≤◌, get_or, set, List, arith, sym, ap, ◌∙◌}
+use Rattle.std.proofs.Common.{ℕ, ◌≡◌, ◌<◌, ◌≤◌, get_or, set, length, replicate, List, arith, sym, ap, ◌∙◌}
 use Rattle.port_parts.specs.Parts.{blank}
 use Rattle.port_parts.specs.declared.Request.{Request}
 use Rattle.port_rows.specs.Records.{left_step}
 use Rattle.port.specs.Walk.{walk_from, walk_to}
 use Rattle.port_list.proofs.Leave.{folded, folded_none, folded_still, folded_next}
-use Rattle.port.proofs.Still.{ordered as in_order, within, before, behind}
+use Rattle.port.proofs.Still.{ordered as in_order, within, before, behind, freed}
 use Rattle.port.proofs.leaves.left.Goals as goal
 
 pub loop-i-init : goal.loop-i-init
@@ -52,4 +52,11 @@ returns c =
     let l = c.args.list.now in
     let w = within d in
     let n : c.loop-i.i ≡ walk_to d = omega arith in
-    (c.answered.ensures, c.loop-i.invariant.so_far ∙ ap (folded left_step l d) n ∙ sym (folded_still left_step l d (walk_to d) 32 w (λ (r : Request) (i : ℕ) (lo : walk_to d ≤ i) (hi : i < 32). behind d r i lo hi)))
+    (c.answered-2.ensures, c.loop-i.invariant.so_far ∙ ap (folded left_step l d) n ∙ sym (folded_still left_step l d (walk_to d) 32 w (λ (r : Request) (i : ℕ) (lo : walk_to d ≤ i) (hi : i < 32). behind d r i lo hi)))
+
+-- a setup frees every record
+pub returns-then-d : goal.returns-then-d
+returns-then-d c =
+    let l = c.args.list.now in
+    let filled = c.fill.ensures.after (λ y e. cc) in
+    (c.answered.ensures, filled ∙ ap (λ (r : Request). replicate (length l) r) c.blank.ensures ∙ freed l c.args.d c.if-d.true (omega arith))
