@@ -1,5 +1,5 @@
 -- What the pass picks, the record there, and what the core leaves of both, is what `choose_call` speaks of. Assumes nothing.
-use Rattle.std.proofs.Common.{◌≡◌, refl, ap, ◌∙◌, get_or, List}
+use Rattle.std.proofs.Common.{◌≡◌, refl, sym, ap, ◌∙◌, get_or, List}
 use Rattle.laws.specs.Folds.{fold_to}
 use Rattle.port_parts.specs.Parts.{blank}
 use Rattle.port_parts.specs.Choice.{chosen_step}
@@ -8,8 +8,8 @@ use Rattle.port_parts.specs.declared.Request.{Request}
 use Rattle.port_rules.specs.Rules.{rules}
 use Rattle.port_rows.specs.Calls.{choose_core}
 use Rattle.port.specs.Calls.{short, pick_at, choose_call}
-use Rattle.port.specs.Scans.{asking, finds}
-use Rattle.port.proofs.Scanned.{choose_is}
+use Rattle.port.specs.Scans.{asking, finds, kept_to}
+use Rattle.port.proofs.Scanned.{one_pass, choose_is}
 use Rattle.port.proofs.Steps.{called}
 use Rattle.port.proofs.choose.Goals as goal
 
@@ -18,7 +18,7 @@ returns c =
     let a = c.args in
     let l = a.list.now in
     let same = c.in-Ok.ensures.1.same in
-    let kept : c.survey-kept.result.0 ≡ rules a.p l = c.survey-kept.ensures.kept ∙ ap (rules a.p) same in
+    let kept : c.survey-kept.result.0 ≡ kept_to a.p l 32 = c.survey-kept.ensures.kept ∙ ap (rules a.p) same ∙ sym (one_pass a.p l) in
     let pick : c.survey-kept.result.1 ≡ pick_at l a.p a.x.now =
     c.survey-kept.ensures.found (λ f r i. chosen_step f r i (record { phys = a.p.phys; now = a.x.now })) (λ f r i g is. cc)
     ∙ ap (λ (f : Pick). fold_to blank (λ f r i. chosen_step f r i (record { phys = a.p.phys; now = a.x.now })) f c.in-Ok.records.now 32) c.no_pick.ensures
