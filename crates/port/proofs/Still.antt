@@ -1,5 +1,5 @@
 -- A call leaves the records before and behind its walk as they were: unless it changes all, it stores one record, at the place that
--- its answer names, and no timer. Assumes nothing.
+-- its answer names, and no timer; and one that frees all leaves blank ones. Assumes nothing.
 use Rattle.std.specs.Prelude.{Option, Some, None, is_some}
 use Prim.Native.Nat.{ℕ, suc, ◌<◌, ◌≤◌}
 use mathlib.Core.Path.{◌≡◌, refl, sym, ap, ◌∙◌}

@@ -1,4 +1,5 @@
--- The records before the walk and behind it stay as they were, and each turn leaves one as `left_step` says. Assumes nothing.
+-- The records before the walk and behind it stay as they were, and each turn leaves one as `left_step` says; a call that frees all has no
+-- walk. Assumes nothing.
 use Rattle.std.proofs.Common.{ℕ, ◌≡◌, ◌<◌, ◌≤◌, get_or, set, length, replicate, List, arith, sym, ap, ◌∙◌}
 use Rattle.port_parts.specs.Parts.{blank}
 use Rattle.port_parts.specs.declared.Request.{Request}
